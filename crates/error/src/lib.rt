@@ -1,0 +1,53 @@
+// The refusals of document 01, "The questions a call goes through". They stand for the Rust's OrderBookError; where that has
+// one error for several questions, each question has its own refusal here.
+ghost use mathlib.Core.Path.{_≡_};
+ghost use Rattle.error.specs.Refusal.{refusalNumber};
+
+pub enum Refusal {
+    StoreNotWellFormed,
+    LayoutOutOfRange,
+    KillSwitchActive,
+    ZeroQuantity,
+    ZeroTrail,
+    StopBeyondWatermark,
+    StopWouldTrigger,
+    DuplicateOrderId,
+    TrailOffTick,
+    NoFreeRecord,
+    SequenceExhausted,
+    OrderNotFound,
+    SamePrice,
+    ListTooShort,
+    InvalidScript,
+    PriceCountOutOfRange,
+    ZeroCollar,
+    CollarOffTick,
+}
+
+impl Refusal {
+    // The number of the question that was answered no.
+    pub fn number(self) -> u64
+        ensures { λ r. ⌜ r ≡ refusalNumber self ⌝ }
+    {
+        match self {
+            Refusal::StoreNotWellFormed => 1,
+            Refusal::LayoutOutOfRange => 2,
+            Refusal::KillSwitchActive => 3,
+            Refusal::ZeroQuantity => 4,
+            Refusal::ZeroTrail => 5,
+            Refusal::StopBeyondWatermark => 6,
+            Refusal::StopWouldTrigger => 7,
+            Refusal::DuplicateOrderId => 8,
+            Refusal::TrailOffTick => 9,
+            Refusal::NoFreeRecord => 10,
+            Refusal::SequenceExhausted => 11,
+            Refusal::OrderNotFound => 12,
+            Refusal::SamePrice => 13,
+            Refusal::ListTooShort => 14,
+            Refusal::InvalidScript => 15,
+            Refusal::PriceCountOutOfRange => 16,
+            Refusal::ZeroCollar => 17,
+            Refusal::CollarOffTick => 18,
+        }
+    }
+}

@@ -1,0 +1,87 @@
+// The value types that orderbook-rs takes from its crate pricelevel: prices, quantities, sides and identities, at 64 bits;
+// and the admission sequence, which document 01 makes a kind of number of its own.
+ghost use mathlib.Core.Path.{_≡_};
+ghost use Rattle.pricelevel.specs.Identity.{kindNumber, sameId};
+ghost use Rattle.pricelevel.specs.Side.{sideNumber};
+ghost use Rattle.pricelevel.specs.Tick.{onTick};
+
+// A price, in price units.
+pub struct Price(pub u64);
+
+// A quantity, in units of the product.
+pub struct Quantity(pub u64);
+
+// An admission sequence, the tie-break of every order of stops.
+pub struct Seq(pub u64);
+
+// The side of an order.
+pub enum Side {
+    Buy,
+    Sell,
+}
+
+impl Side {
+    // The number of a side in a stored word: 0 buy, 1 sell.
+    pub fn number(self) -> u8
+        ensures { λ r. ⌜ r ≡ sideNumber self ⌝ }
+    {
+        match self {
+            Side::Buy => 0,
+            Side::Sell => 1,
+        }
+    }
+}
+
+// What an identity was made as.
+pub enum IdKind {
+    Uuid,
+    Ulid,
+    Sequential,
+}
+
+impl IdKind {
+    // The number of a kind, in a stored word and in the name of a child order: 0 UUID, 1 ULID, 2 sequential.
+    pub fn number(self) -> u8
+        ensures { λ r. ⌜ r ≡ kindNumber self ⌝ }
+    {
+        match self {
+            IdKind::Uuid => 0,
+            IdKind::Ulid => 1,
+            IdKind::Sequential => 2,
+        }
+    }
+}
+
+// An order's identity: its kind, and its sixteen bytes as two big-endian words, the high one first.
+pub struct Id {
+    pub kind: IdKind,
+    pub high: u64,
+    pub low: u64,
+}
+
+impl Id {
+    // Whether two identities are equal: in kind and in both words.
+    pub fn eq(self, other: Id) -> bool
+        ensures { λ r. ⌜ r ≡ sameId self other ⌝ }
+    {
+        let mine = self.kind;
+        let theirs = other.kind;
+        if mine.number() != theirs.number() {
+            return false;
+        }
+        if self.high != other.high {
+            return false;
+        }
+        self.low == other.low
+    }
+}
+
+// Whether an amount of price units lies on a tick: is a multiple of it, or the tick is 0, which is none.
+pub fn on_tick(tick: u64, amount: u64) -> bool
+    ensures { λ r. ⌜ r ≡ onTick tick amount ⌝ }
+{
+    if tick == 0 {
+        return true;
+    }
+    amount % tick == 0
+}
