@@ -1,0 +1,64 @@
+-- The starred examples of document 01, in one table with one proof.
+use Prim.Native.Nat.{ℕ, _-_, _^_}
+use mathlib.Core.Bool.{Bool, true, false}
+use mathlib.Core.List.{List, [], _∷_, map}
+use mathlib.Core.Path.{_≡_, refl}
+use Rattle.pricelevel.specs.declared.Side.{Side}
+use Rattle.pricelevel.specs.declared.Side.the-variants.{Buy, Sell}
+use Rattle.stop_protection.specs.Collar.{limitFor}
+use Rattle.stop_terms.specs.Terms.{behind, candidate, tightened, ratcheted, trailedAt, elects, electedAt}
+use Rattle.stop_terms.specs.declared.StopTerms.{StopTerms}
+
+-- Side, stop, watermark, trail.
+unfoldable pub terms : Side → ℕ → ℕ → ℕ → StopTerms
+terms side stop watermark trail = record { side = side; stop = record { 0 = stop }; watermark = record { 0 = watermark }; trail = trail }
+
+unfoldable pub number : Bool → ℕ
+number false = 0
+number true = 1
+
+-- An answer as numbers: the stop and the watermark of terms; 1 or 0 of a test; a limit.
+pub data Question : Type 0 where
+  trailed : StopTerms → ℕ → Question
+  elected : StopTerms → ℕ → Question
+  limit : Side → ℕ → ℕ → Question
+
+unfoldable pub answer : Question → List ℕ
+answer (trailed t price) = trailedAt t (record { 0 = price }) .stop .0 ∷ trailedAt t (record { 0 = price }) .watermark .0 ∷ []
+answer (elected t price) = number (electedAt t (record { 0 = price })) ∷ []
+answer (limit side stop collar) = limitFor collar side stop ∷ []
+
+pub record Example : Type 0 where
+  pub question : Question
+  pub expected : List ℕ
+
+unfoldable pub example : Question → List ℕ → Example
+example q e = record { question = q; expected = e }
+
+unfoldable pub table : List Example
+table =
+    example (trailed (terms Sell 90 100 10) 105) (95 ∷ 105 ∷ [])
+    ∷ example (trailed (terms Sell 90 100 10) 100) (90 ∷ 100 ∷ [])
+    ∷ example (trailed (terms Sell 90 100 200) 105) (90 ∷ 105 ∷ [])
+    ∷ example (trailed (terms Sell 95 100 10) 101) (95 ∷ 101 ∷ [])
+    ∷ example (trailed (terms Buy 110 100 10) 95) (105 ∷ 95 ∷ [])
+    ∷ example (trailed (terms Buy (2 ^ 64 - 1) (2 ^ 64 - 1) 10) (2 ^ 64 - 3)) ((2 ^ 64 - 1) ∷ (2 ^ 64 - 3) ∷ [])
+    ∷ example (elected (terms Sell 95 100 10) 95) (1 ∷ [])
+    ∷ example (elected (terms Sell 95 100 10) 96) (0 ∷ [])
+    ∷ example (elected (terms Buy 105 100 10) 105) (1 ∷ [])
+    ∷ example (elected (terms Buy 105 100 10) 104) (0 ∷ [])
+    ∷ example (limit Sell 95 5) (90 ∷ [])
+    ∷ example (limit Sell 95 100) (0 ∷ [])
+    ∷ example (limit Buy (2 ^ 64 - 1) 1) ((2 ^ 64 - 1) ∷ [])
+    ∷ []
+
+unfoldable pub answered : List (List ℕ)
+answered = map (λ e. answer (e .question)) table
+
+unfoldable pub expected : List (List ℕ)
+expected = map (λ e. e .expected) table
+
+-- Every question has the answer that document 01 gives.
+pub starred : answered ≡ expected
+unfolding answered expected table example answer terms number behind candidate tightened ratcheted trailedAt elects electedAt limitFor
+starred = refl

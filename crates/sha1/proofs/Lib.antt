@@ -1,0 +1,4 @@
+pub mod BigEndian
+pub mod Pad
+pub mod Turns
+pub mod Vectors
