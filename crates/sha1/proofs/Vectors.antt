@@ -1,6 +1,6 @@
 -- Published digests of SHA-1, as theorems of the definition: antt computes each of them.
 use mathlib.Core.Path.{_≡_, refl}
-use mathlib.Core.List.{List, [], _∷_}
+use mathlib.Core.List.{[], _∷_}
 use Rattle.sha1.specs.Fips.{pad, zeros, bigEndian, schedule, nextWord, steps, step, f, K, sums, block, blocks, hash, octets, digest}
 
 -- the empty message
