@@ -3,6 +3,9 @@ use Prim.Native.Nat.{ℕ, _-_, _^_}
 use mathlib.Core.Bool.{Bool, true, false}
 use mathlib.Core.List.{List, [], _∷_, map}
 use mathlib.Core.Path.{_≡_, refl}
+use Rattle.book.specs.Evaluation.{sellsFirst, fallsTo}
+use Rattle.book.specs.declared.LastPrice.{LastPrice}
+use Rattle.book.specs.declared.LastPrice.the-variants as last
 use Rattle.pricelevel.specs.declared.Side.{Side}
 use Rattle.pricelevel.specs.declared.Side.the-variants.{Buy, Sell}
 use Rattle.stop_protection.specs.Collar.{limitFor}
@@ -17,16 +20,19 @@ unfoldable pub number : Bool → ℕ
 number false = 0
 number true = 1
 
--- An answer as numbers: the stop and the watermark of terms; 1 or 0 of a test; a limit.
+-- An answer as numbers: the stop and the watermark of terms; 1 or 0 of a test; a limit; 1 where sells come first at a segment's first
+-- point.
 pub data Question : Type 0 where
   trailed : StopTerms → ℕ → Question
   elected : StopTerms → ℕ → Question
   limit : Side → ℕ → ℕ → Question
+  sellsLead : LastPrice → ℕ → ℕ → Question
 
 unfoldable pub answer : Question → List ℕ
 answer (trailed t price) = trailedAt t (record { 0 = price }) .stop .0 ∷ trailedAt t (record { 0 = price }) .watermark .0 ∷ []
 answer (elected t price) = number (electedAt t (record { 0 = price })) ∷ []
 answer (limit side stop collar) = limitFor collar side stop ∷ []
+answer (sellsLead prev first last) = number (sellsFirst (fallsTo (record { 0 = first }) (record { 0 = last })) prev (record { 0 = first })) ∷ []
 
 pub record Example : Type 0 where
   pub question : Question
@@ -50,6 +56,8 @@ table =
     ∷ example (limit Sell 95 5) (90 ∷ [])
     ∷ example (limit Sell 95 100) (0 ∷ [])
     ∷ example (limit Buy (2 ^ 64 - 1) 1) ((2 ^ 64 - 1) ∷ [])
+    ∷ example (sellsLead last.None 100 101) (0 ∷ [])
+    ∷ example (sellsLead last.None 100 100) (1 ∷ [])
     ∷ []
 
 unfoldable pub answered : List (List ℕ)
@@ -60,5 +68,5 @@ expected = map (λ e. e .expected) table
 
 -- Every question has the answer that document 01 gives.
 pub starred : answered ≡ expected
-unfolding answered expected table example answer terms number behind candidate tightened ratcheted trailedAt elects electedAt limitFor
+unfolding answered expected table example answer terms number behind candidate tightened ratcheted trailedAt elects electedAt limitFor sellsFirst fallsTo
 starred = refl

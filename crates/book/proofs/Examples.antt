@@ -1,0 +1,211 @@
+-- Document 01's examples about stores and runs, in one table that the checker computes.
+use Prim.Native.Nat.{ℕ, _-_, _^_}
+use mathlib.Core.Path.{_≡_, refl}
+use mathlib.Core.Bool.{Bool, true, false}
+use mathlib.Core.List.{List, [], _∷_, _++_, map}
+use lib.ListN.{length, replicate}
+use Rattle.error.specs.Answer.{Answer, refused, accepted}
+use Rattle.pricelevel.specs.Identity.{kindNumber, sameId}
+use Rattle.pricelevel.specs.Side.{sideNumber}
+use Rattle.pricelevel.specs.Tick.{onTick}
+use Rattle.pricelevel.specs.declared.Id.{Id}
+use Rattle.pricelevel.specs.declared.IdKind.the-variants as kind
+use Rattle.pricelevel.specs.declared.Price.{Price}
+use Rattle.pricelevel.specs.declared.Seq.{Seq}
+use Rattle.pricelevel.specs.declared.Side.{Side}
+use Rattle.pricelevel.specs.declared.Side.the-variants.{Buy, Sell}
+use Rattle.stop_protection.specs.declared.Limit.the-variants as limit
+use Rattle.stop_protection.specs.declared.Protection.the-variants as protection
+use Rattle.stop_terms.specs.Terms.{behind, candidate, tightened, ratcheted, trailedAt, elects, electedAt, inconsistencyOf}
+use Rattle.stop_terms.specs.declared.StopTerms.{StopTerms}
+use Rattle.book.specs.Book.{chainSide, before, lexicographic, withIndex, gather, insert, sort, ofSide, pendingOn, chain, indices, pendingCount}
+use Rattle.book.specs.Calls.{Settings, Counts, SegmentOutcome, WalkOutcome, electedEntry, electedEntries, written, countsOf, pendingIn, segmentQuestions, segmentCall, walkQuestions, walkCall}
+use Rattle.book.specs.Evaluation.{trailed, leaves, vacatedIf, settled, leavingOn, leaver, electedOn, electedBy, freed, changedOn, mover, movedEntry, movedOn, movedBy, fillAt, point, sellsFirst, fallsTo, andThen, walkFrom, segment, lastOf, walk}
+use Rattle.book.specs.Lists.{headOr0, rising, every, sameList}
+use Rattle.book.specs.Path.{closed}
+use Rattle.book.specs.Questions.{firstNo, decide}
+use Rattle.book.specs.Store.{PathOutcome, stored, storedBook, emptyBook, layOut, named, lookup, isSome, isPending, withinWatermark, notTriggered, admissionQuestions, admitted, newEntry, pathAfterAdmission, admit}
+use Rattle.book.specs.Words.{nextIn, chainIndices, header, recordWords, recordsWords, layout, recordWord, kindOf, sideFrom, entryAt, slotAt, slotsAt, freeFrom, bookOf, consistent, soundStop, differs, allDiffer, vacantIndices, insertRising, sortRising, valid, areWords, wellFormed}
+use Rattle.book.specs.declared.Elected.{Elected}
+use Rattle.book.specs.declared.LastPrice.{LastPrice}
+use Rattle.book.specs.declared.LastPrice.the-variants as last
+use Rattle.book.specs.declared.Moved.{Moved}
+use Rattle.book.specs.declared.PrintPath.{PrintPath}
+
+------------------------------------------------------------------------
+-- What is asked
+
+price : ℕ → Price
+price n = record { 0 = n }
+
+sequential : ℕ → Id
+sequential n = record { kind = kind.Sequential; high = 0; low = n }
+
+terms : Side → ℕ → ℕ → ℕ → StopTerms
+terms side stop watermark trail = record { side = side; stop = price stop; watermark = price watermark; trail = trail }
+
+-- no collar, kill switch off, namespace zero
+plain : Settings
+plain = record { kill = false; protection = protection.None; namespace = record { high = 0; low = 0 } }
+
+-- entries of lent lists before a call
+blank : Elected
+blank = record {
+  id = sequential 0;
+  side = Buy;
+  stop = price 0;
+  quantity = record { 0 = 0 };
+  seq = record { 0 = 0 };
+  trigger = price 0;
+  limit = limit.None;
+  child = sequential 0;
+  pending = false;
+}
+
+unmoved : Moved
+unmoved = record { id = sequential 0; stop = price 0 }
+
+closedPath : PrintPath
+closedPath = record { «open» = false; «has_prev» = false; prev = price 0; first = price 0 }
+
+admitInto : List ℕ → LastPrice → ℕ → StopTerms → PathOutcome Seq
+admitInto w trade id t = admit false trade (sequential id) t (record { 0 = 1 }) w closedPath
+
+segmentOver : List ℕ → LastPrice → ℕ → ℕ → SegmentOutcome
+segmentOver w prev first last =
+    segmentCall plain (record { prev = prev; first = price first; last = price last }) w (replicate 4 blank) (replicate 8 unmoved)
+
+walkOver : List ℕ → List ℕ → WalkOutcome
+walkOver w l = walkCall plain last.None (map price l) w (replicate 4 blank)
+
+------------------------------------------------------------------------
+-- Answers as numbers: refused is 0 and the number; accepted 1 and the values
+
+toldSeq : Answer Seq → List ℕ
+toldSeq (refused k) = 0 ∷ k ∷ []
+toldSeq (accepted s) = 1 ∷ s .0 ∷ []
+
+toldCounts : Answer Counts → List ℕ
+toldCounts (refused k) = 0 ∷ k ∷ []
+toldCounts (accepted c) = 1 ∷ c .moves ∷ c .elected ∷ []
+
+-- kind, high, low, side, stop, quantity, sequence, trigger, as the program forecast prints an elected entry
+line : Elected → List ℕ
+line e =
+    kindNumber (e .id .kind) ∷ e .id .high ∷ e .id .low ∷ sideNumber (e .side) ∷ e .stop .0 ∷ e .quantity .0 ∷ e .seq .0 ∷ e .trigger .0 ∷ []
+
+movedLine : Moved → List ℕ
+movedLine m = m .id .low ∷ m .stop .0 ∷ []
+
+segmentLines : SegmentOutcome → List (List ℕ)
+segmentLines o = toldCounts (o .answer) ∷ o .words ∷ (map line (o .elected) ++ map movedLine (o .moved))
+
+walkLines : WalkOutcome → List (List ℕ)
+walkLines o = toldCounts (o .answer) ∷ o .words ∷ map line (o .elected)
+
+admissionLines : PathOutcome Seq → List (List ℕ)
+admissionLines o = toldSeq (o .answer) ∷ o .words ∷ []
+
+------------------------------------------------------------------------
+-- Stores
+
+-- a layout of two records leaves the word behind it
+laidOut : List ℕ
+laidOut = layOut 2 0 (replicate 32 5) .words
+
+-- two sells, as the program forecast reads them
+forecastStore : List ℕ
+forecastStore =
+    2 ∷ 2 ∷ 2 ∷ 0 ∷ 1 ∷ 1 ∷ 0 ∷ 0 ∷ 0
+    ∷ 2 ∷ 0 ∷ 7 ∷ 1 ∷ 98 ∷ 100 ∷ 10 ∷ 1 ∷ 0 ∷ 2 ∷ 2
+    ∷ 2 ∷ 0 ∷ 9 ∷ 1 ∷ 95 ∷ 100 ∷ 10 ∷ 1 ∷ 1 ∷ 0 ∷ 0
+    ∷ []
+
+-- a sell (95, 100, 5)
+turningStore : List ℕ
+turningStore = 1 ∷ 1 ∷ 1 ∷ 0 ∷ 1 ∷ 1 ∷ 0 ∷ 0 ∷ 0 ∷ 2 ∷ 0 ∷ 7 ∷ 1 ∷ 95 ∷ 100 ∷ 5 ∷ 1 ∷ 0 ∷ 0 ∷ 0 ∷ []
+
+-- a sell and a buy that a print at 100 elects
+bothStore : List ℕ
+bothStore =
+    2 ∷ 2 ∷ 2 ∷ 0 ∷ 1 ∷ 1 ∷ 2 ∷ 2 ∷ 0
+    ∷ 2 ∷ 0 ∷ 7 ∷ 1 ∷ 100 ∷ 100 ∷ 10 ∷ 1 ∷ 0 ∷ 0 ∷ 0
+    ∷ 2 ∷ 0 ∷ 9 ∷ 0 ∷ 100 ∷ 100 ∷ 10 ∷ 1 ∷ 1 ∷ 0 ∷ 0
+    ∷ []
+
+-- two sells with equal stops, two buys with equal watermarks: ties by sequence ascending, and in the last descending
+tiesStore : List ℕ
+tiesStore =
+    4 ∷ 4 ∷ 4 ∷ 0 ∷ 1 ∷ 1 ∷ 3 ∷ 4 ∷ 0
+    ∷ 2 ∷ 0 ∷ 1 ∷ 1 ∷ 90 ∷ 100 ∷ 10 ∷ 1 ∷ 0 ∷ 2 ∷ 2
+    ∷ 2 ∷ 0 ∷ 2 ∷ 1 ∷ 90 ∷ 100 ∷ 10 ∷ 1 ∷ 1 ∷ 0 ∷ 0
+    ∷ 2 ∷ 0 ∷ 3 ∷ 0 ∷ 110 ∷ 100 ∷ 10 ∷ 1 ∷ 2 ∷ 4 ∷ 0
+    ∷ 2 ∷ 0 ∷ 4 ∷ 0 ∷ 110 ∷ 100 ∷ 10 ∷ 1 ∷ 3 ∷ 0 ∷ 3
+    ∷ []
+
+------------------------------------------------------------------------
+-- The table
+
+blankLine : List ℕ
+blankLine = 2 ∷ 0 ∷ 0 ∷ 0 ∷ 0 ∷ 0 ∷ 0 ∷ 0 ∷ []
+
+-- what is written, and the entries that stay
+lentElected : List (List ℕ) → List (List ℕ)
+lentElected l = l ++ replicate (4 - length l) blankLine
+
+lentMoved : List (List ℕ) → List (List ℕ)
+lentMoved l = l ++ replicate (8 - length l) (0 ∷ 0 ∷ [])
+
+-- both records are free, the one that left last at the head
+forecastLeft : List ℕ
+forecastLeft = 2 ∷ 0 ∷ 2 ∷ 0 ∷ 0 ∷ 0 ∷ 0 ∷ 0 ∷ 2 ∷ (replicate 20 0 ++ (1 ∷ 0 ∷ []))
+
+sellLine : List ℕ
+sellLine = 2 ∷ 0 ∷ 7 ∷ 1 ∷ 100 ∷ 1 ∷ 0 ∷ 100 ∷ []
+
+buyLine : List ℕ
+buyLine = 2 ∷ 0 ∷ 9 ∷ 0 ∷ 100 ∷ 1 ∷ 1 ∷ 100 ∷ []
+
+record Example : Type 0 where
+  found : List (List ℕ)
+  expected : List (List ℕ)
+
+example : List (List ℕ) → List (List ℕ) → Example
+example found expected = record { found = found; expected = expected }
+
+table : List Example
+table =
+    example (laidOut ∷ []) ((2 ∷ 0 ∷ 0 ∷ 0 ∷ 0 ∷ 0 ∷ 0 ∷ 0 ∷ 1 ∷ (replicate 9 0 ++ (2 ∷ 0 ∷ replicate 9 0 ++ (0 ∷ 0 ∷ 5 ∷ [])))) ∷ [])
+    ∷ example
+    (admissionLines (admitInto (admitInto laidOut last.None 7 (terms Sell 98 100 10) .words) last.None 9 (terms Sell 95 100 10)))
+    ((1 ∷ 1 ∷ []) ∷ (forecastStore ++ (5 ∷ [])) ∷ [])
+    ∷ example (admissionLines (admitInto forecastStore last.None 11 (terms Sell 90 100 10))) ((0 ∷ 10 ∷ []) ∷ forecastStore ∷ [])
+    ∷ example (admissionLines (admitInto forecastStore (last.At (price 90)) 9 (terms Sell 90 100 10))) ((0 ∷ 7 ∷ []) ∷ forecastStore ∷ [])
+    ∷ example (admissionLines (admitInto forecastStore last.None 9 (terms Sell 90 100 10))) ((0 ∷ 8 ∷ []) ∷ forecastStore ∷ [])
+    ∷ example (walkLines (walkOver forecastStore (100 ∷ 97 ∷ 94 ∷ [])))
+    ((1 ∷ 0 ∷ 2 ∷ []) ∷ forecastLeft ∷ lentElected ((2 ∷ 0 ∷ 7 ∷ 1 ∷ 98 ∷ 1 ∷ 0 ∷ 97 ∷ []) ∷ (2 ∷ 0 ∷ 9 ∷ 1 ∷ 95 ∷ 1 ∷ 1 ∷ 94 ∷ []) ∷ []))
+    ∷ example (segmentLines (segmentOver forecastStore last.None 100 94))
+    ((1 ∷ 0 ∷ 2 ∷ []) ∷ forecastLeft
+    ∷ (lentElected ((2 ∷ 0 ∷ 7 ∷ 1 ∷ 98 ∷ 1 ∷ 0 ∷ 94 ∷ []) ∷ (2 ∷ 0 ∷ 9 ∷ 1 ∷ 95 ∷ 1 ∷ 1 ∷ 94 ∷ []) ∷ []) ++ lentMoved []))
+    ∷ example (walkLines (walkOver turningStore (100 ∷ 110 ∷ 100 ∷ [])))
+    ((1 ∷ 1 ∷ 1 ∷ []) ∷ (1 ∷ 0 ∷ 1 ∷ 0 ∷ 0 ∷ 0 ∷ 0 ∷ 0 ∷ 1 ∷ replicate 11 0) ∷ lentElected ((2 ∷ 0 ∷ 7 ∷ 1 ∷ 105 ∷ 1 ∷ 0 ∷ 100 ∷ []) ∷ []))
+    ∷ example (segmentLines (segmentOver turningStore last.None 100 100))
+    ((1 ∷ 0 ∷ 0 ∷ []) ∷ turningStore ∷ (lentElected [] ++ lentMoved []))
+    ∷ example (map line (segmentOver bothStore last.None 100 101 .elected)) (lentElected (buyLine ∷ sellLine ∷ []))
+    ∷ example (map line (segmentOver bothStore last.None 100 100 .elected)) (lentElected (sellLine ∷ buyLine ∷ []))
+    ∷ example (map line (segmentOver bothStore (last.At (price 101)) 100 101 .elected)) (lentElected (sellLine ∷ buyLine ∷ []))
+    ∷ example (map line (segmentOver bothStore (last.At (price 100)) 100 101 .elected)) (lentElected (buyLine ∷ sellLine ∷ []))
+    ∷ example (map line (walkOver tiesStore (90 ∷ []) .elected))
+    (lentElected ((2 ∷ 0 ∷ 1 ∷ 1 ∷ 90 ∷ 1 ∷ 0 ∷ 90 ∷ []) ∷ (2 ∷ 0 ∷ 2 ∷ 1 ∷ 90 ∷ 1 ∷ 1 ∷ 90 ∷ []) ∷ []))
+    ∷ example (map movedLine (segmentOver tiesStore last.None 95 95 .moved)) (lentMoved ((4 ∷ 105 ∷ []) ∷ (3 ∷ 105 ∷ []) ∷ []))
+    ∷ []
+
+found : List (List (List ℕ))
+found = map (λ e. e .found) table
+
+expected : List (List (List ℕ))
+expected = map (λ e. e .expected) table
+
+examples : found ≡ expected
+unfolding price sequential terms plain blank unmoved closedPath admitInto segmentOver walkOver toldSeq toldCounts line movedLine segmentLines walkLines admissionLines laidOut forecastStore turningStore bothStore tiesStore blankLine lentElected lentMoved forecastLeft sellLine buyLine example table found expected chainSide before lexicographic withIndex gather insert sort ofSide pendingOn chain indices pendingCount headOr0 rising every sameList nextIn chainIndices header recordWords recordsWords layout recordWord kindOf sideFrom entryAt slotAt slotsAt freeFrom bookOf consistent soundStop differs allDiffer vacantIndices insertRising sortRising valid areWords wellFormed sameId onTick behind inconsistencyOf candidate tightened ratcheted trailedAt elects electedAt electedEntry electedEntries written countsOf pendingIn segmentQuestions segmentCall walkQuestions walkCall trailed leaves vacatedIf settled leavingOn leaver electedOn electedBy freed changedOn mover movedEntry movedOn movedBy fillAt point sellsFirst fallsTo andThen walkFrom segment lastOf walk firstNo decide stored storedBook emptyBook layOut named lookup isSome isPending withinWatermark notTriggered admissionQuestions admitted newEntry pathAfterAdmission admit closed
+examples = refl

@@ -1,0 +1,14 @@
+pub mod Agreement
+pub mod ChainIndices
+pub mod EndsDecide
+pub mod Examples
+pub mod FreeChain
+pub mod Lists
+pub mod Parting
+pub mod Places
+pub mod Points
+pub mod Reading
+pub mod Refusals
+pub mod Stops
+pub mod Validity
+pub mod WellFormed

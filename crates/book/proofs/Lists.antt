@@ -1,0 +1,59 @@
+-- Laws of lists: tests on every element, and equality of lists of numbers.
+use Prim.Native.Nat.{ℕ, zero, suc}
+use mathlib.Core.Path.{_≡_, refl, sym, ap, ap₂, _∙_}
+use mathlib.Core.Bool.{Bool, true, false, _&&_, false≢true}
+use mathlib.Core.List.{List, [], _∷_, _++_}
+use lib.Dec.{eqb}
+use lib.ListN.{getD}
+use borrow.Author.Tests.{eqb-true, eq-eqb}
+use Rattle.pricelevel.proofs.Bools.{and-parts}
+use Rattle.book.specs.Lists.{every, sameList}
+
+-- what holds of every element
+abbrev pub All : {A : Type 0} → (A → Type 0) → List A → Type 0
+All P [] = Unit {0}
+All P (x ∷ l) = P x × All P l
+
+pub all-map : {A : Type 0} {P Q : A → Type 0} (f : (x : A) → P x → Q x) (l : List A) → All P l → All Q l
+all-map f [] h = tt
+all-map f (x ∷ l) h = (f x (h .0), all-map f l (h .1))
+
+pub every-all : {A : Type 0} (p : A → Bool) (l : List A) → every p l ≡ true → All (λ x. p x ≡ true) l
+unfolding every
+every-all p [] e = tt
+every-all p (x ∷ l) e = let h = and-parts (p x) (every p l) e in (h .0, every-all p l (h .1))
+
+pub all-every : {A : Type 0} (p : A → Bool) (l : List A) → All (λ x. p x ≡ true) l → every p l ≡ true
+unfolding every
+all-every p [] h = refl
+all-every p (x ∷ l) h = rw (h .0, all-every p l (h .1))
+
+pub sameList-equal : (l m : List ℕ) → sameList l m ≡ true → l ≡ m
+unfolding sameList
+sameList-equal [] [] e = refl
+sameList-equal [] (y ∷ m) e = absurd (false≢true e)
+sameList-equal (x ∷ l) [] e = absurd (false≢true e)
+sameList-equal (x ∷ l) (y ∷ m) e =
+    let h = and-parts (eqb x y) (sameList l m) e in
+    ap₂ (λ (a : ℕ) (b : List ℕ). a ∷ b) (eqb-true x y (h .0)) (sameList-equal l m (h .1))
+
+pub sameList-refl : (l : List ℕ) → sameList l l ≡ true
+unfolding sameList
+sameList-refl [] = refl
+sameList-refl (x ∷ l) = rw (eq-eqb x x refl, sameList-refl l)
+
+------------------------------------------------------------------------
+-- What holds of every element
+
+pub all-map-both : {A : Type 0} {P Q R : A → Type 0} (f : (x : A) → P x → Q x → R x) (l : List A) → All P l → All Q l → All R l
+all-map-both f [] p q = tt
+all-map-both f (x ∷ l) p q = (f x (p .0) (q .0), all-map-both f l (p .1) (q .1))
+
+pub all-append : {A : Type 0} (P : A → Type 0) (l m : List A) → All P l → All P m → All P (l ++ m)
+all-append P [] m h k = k
+all-append P (x ∷ l) m h k = (h .0, all-append P l m (h .1) k)
+
+pub all-getD : {A : Type 0} (P : A → Type 0) (l : List A) (i : ℕ) (d : A) → P d → All P l → P (getD l i d)
+all-getD P [] i d o h = o
+all-getD P (x ∷ l) zero d o h = h .0
+all-getD P (x ∷ l) (suc i) d o h = all-getD P l i d o (h .1)

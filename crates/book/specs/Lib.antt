@@ -1,0 +1,10 @@
+pub mod Book
+pub mod Calls
+pub mod Evaluation
+pub mod Lists
+pub mod Path
+pub mod Questions
+pub mod Runs
+pub mod Script
+pub mod Store
+pub mod Words

@@ -1,0 +1,60 @@
+-- The words of demand 3: runs that never fall or never rise, and elected entries that are alike.
+use Prim.Native.Nat.{ℕ, _≤_}
+use mathlib.Core.Bool.{Bool}
+use mathlib.Core.List.{List, [], _∷_, map}
+use mathlib.Core.Path.{_≡_}
+use lib.ListN.{take}
+use Rattle.error.specs.Answer.{accepted}
+use Rattle.pricelevel.specs.declared.Id.{Id}
+use Rattle.pricelevel.specs.declared.Price.{Price}
+use Rattle.pricelevel.specs.declared.Quantity.{Quantity}
+use Rattle.pricelevel.specs.declared.Seq.{Seq}
+use Rattle.pricelevel.specs.declared.Side.{Side}
+use Rattle.pricelevel.specs.declared.Side.the-variants.{Buy, Sell}
+use Rattle.stop_protection.specs.declared.Limit.{Limit}
+use Rattle.book.specs.Calls.{SegmentOutcome, WalkOutcome}
+use Rattle.book.specs.declared.Elected.{Elected}
+
+-- the direction of a run is the side whose stops trail it: a sell's go up, a buy's down
+abbrev pub Goes : Side → ℕ → ℕ → Type 0
+Goes Sell p q = p ≤ q
+Goes Buy p q = q ≤ p
+
+-- a run that never falls (Sell) or never rises (Buy)
+abbrev pub Monotone : Side → Price → List Price → Type 0
+Monotone d p [] = Unit {0}
+Monotone d p (q ∷ qs) = Goes d (p .0) (q .0) × Monotone d q qs
+
+-- what segment and walk must agree in: all of an elected entry but its trigger price
+pub record Likeness : Type 0 where
+  pub id : Id
+  pub side : Side
+  pub stop : Price
+  pub quantity : Quantity
+  pub seq : Seq
+  pub limit : Limit
+  pub child : Id
+  pub pending : Bool
+
+unfoldable pub likeness : Elected → Likeness
+likeness e = record {
+  id = e .id;
+  side = e .side;
+  stop = e .stop;
+  quantity = e .quantity;
+  seq = e .seq;
+  limit = e .limit;
+  child = e .child;
+  pending = e .pending;
+}
+
+-- Demand 3, of the segment over a run's ends and the walk over the run: neither is refused; both answer the same number elected; their
+-- elected entries are alike, entry by entry; and the two stores are equal in every word
+pub record DecidedByEnds (ends : SegmentOutcome) (run : WalkOutcome) : Type 0 where
+  pub elected : ℕ
+  pub moves : ℕ
+  pub steps : ℕ
+  pub ends-answer : ends .answer ≡ accepted (record { moves = moves; elected = elected })
+  pub run-answer : run .answer ≡ accepted (record { moves = steps; elected = elected })
+  pub alike : map likeness (take elected (ends .elected)) ≡ map likeness (take elected (run .elected))
+  pub stores : ends .words ≡ run .words
