@@ -53,7 +53,7 @@ sortRising-distinct [] h = h
 sortRising-distinct (i ∷ l) h =
     let d = insertRising-distinct i (sortRising l) h in (sortRising-all (λ k. i ≢ k) l (d .0), sortRising-distinct l (d .1))
 
-insertRising-length : (i : ℕ) (l : List ℕ) → length (insertRising i l) ≡ suc (length l)
+pub insertRising-length : (i : ℕ) (l : List ℕ) → length (insertRising i l) ≡ suc (length l)
 unfolding insertRising
 insertRising-length i [] = refl
 insertRising-length i (j ∷ l) = go (ltb i j) (insertRising-length i l)

@@ -1,10 +1,11 @@
 -- Laws of lists: tests on every element, and equality of lists of numbers.
-use Prim.Native.Nat.{ℕ, zero, suc}
+use Prim.Native.Nat.{ℕ, zero, suc, _<_}
 use mathlib.Core.Path.{_≡_, refl, sym, ap, ap₂, _∙_}
 use mathlib.Core.Bool.{Bool, true, false, _&&_, false≢true}
 use mathlib.Core.List.{List, [], _∷_, _++_}
+use native.Mathlib.Omega.{arith}
 use lib.Dec.{eqb}
-use lib.ListN.{getD}
+use lib.ListN.{length, getD, set, replicate}
 use borrow.Author.Tests.{eqb-true, eq-eqb}
 use Rattle.pricelevel.proofs.Bools.{and-parts}
 use Rattle.book.specs.Lists.{every, sameList}
@@ -57,3 +58,24 @@ pub all-getD : {A : Type 0} (P : A → Type 0) (l : List A) (i : ℕ) (d : A) �
 all-getD P [] i d o h = o
 all-getD P (x ∷ l) zero d o h = h .0
 all-getD P (x ∷ l) (suc i) d o h = all-getD P l i d o (h .1)
+
+pub all-of : {A : Type 0} {P : A → Type 0} → ((x : A) → P x) → (l : List A) → All P l
+all-of f [] = tt
+all-of f (x ∷ l) = (f x, all-of f l)
+
+pub all-append-parts : {A : Type 0} (P : A → Type 0) (l m : List A) → All P (l ++ m) → All P l × All P m
+all-append-parts P [] m h = (tt, h)
+all-append-parts P (x ∷ l) m h = let r = all-append-parts P l m (h .1) in ((h .0, r .0), r .1)
+
+pub all-set : {A : Type 0} (P : A → Type 0) (l : List A) (i : ℕ) (a : A) → P a → All P l → All P (set l i a)
+all-set P [] i a p h = tt
+all-set P (x ∷ l) zero a p h = (p, h .1)
+all-set P (x ∷ l) (suc i) a p h = (h .0, all-set P l i a p (h .1))
+
+pub getD-all : {A : Type 0} (P : A → Type 0) (l : List A) (d : A) → ((i : ℕ) → i < length l → P (getD l i d)) → All P l
+getD-all P [] d f = tt
+getD-all P (x ∷ l) d f = (f 0 (omega arith), getD-all P l d (λ i h. f (suc i) (omega arith)))
+
+pub all-replicate : {A : Type 0} (P : A → Type 0) (n : ℕ) (a : A) → P a → All P (replicate n a)
+all-replicate P zero a p = tt
+all-replicate P (suc n) a p = (p, all-replicate P n a p)

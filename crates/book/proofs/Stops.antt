@@ -1,21 +1,19 @@
 -- One stop at two prices: trailing twice, at which prices it leaves, a stop that a point left in the book, and trails of at least 1.
 use Prim.Native.Nat.{ℕ, _≤_}
 use mathlib.Core.Path.{_≡_, refl}
-use mathlib.Core.Bool.{Bool, true, false, not, false≢true}
+use mathlib.Core.Bool.{Bool, true, false, not}
 use mathlib.Core.List.{List}
-use native.Mathlib.Omega.{arith}
-use borrow.Author.Tests.{not-true, not-false, eqb-false}
+use borrow.Author.Tests.{not-true, not-false}
 use borrow.Table.Steps.{cases}
-use lib.Dec.{leb, ltb, eqb}
 use Rattle.pricelevel.specs.declared.Price.{Price}
-use Rattle.pricelevel.proofs.Bools.{and-parts}
-use Rattle.stop_terms.specs.Terms.{behind, ratcheted, trailedAt, electedAt, inconsistencyOf}
+use Rattle.stop_terms.specs.Terms.{behind, ratcheted, trailedAt, electedAt}
 use Rattle.stop_terms.specs.declared.StopTerms.{StopTerms}
 use Rattle.stop_terms.proofs.Terms.{behind-past, behind-irrefl, past-trans, past-antisym, elects-past, candidate-again, tightened-behind, trailedAt-still}
 use Rattle.book.proofs.Lists.{All, all-map}
-use Rattle.book.specs.Book.{Slot, vacant, held, sideOf, stopOf, watermarkOf, seqOf}
+use Rattle.book.proofs.Soundness.{consistent-parts, sound-parts}
+use Rattle.book.specs.Book.{Slot, vacant, held, sideOf, stopOf, watermarkOf}
 use Rattle.book.specs.Evaluation.{trailed, leaves}
-use Rattle.book.specs.Words.{consistent, soundStop}
+use Rattle.book.specs.Words.{soundStop}
 use Rattle.book.specs.declared.StopEntry.{StopEntry}
 
 ------------------------------------------------------------------------
@@ -117,18 +115,9 @@ abbrev pub Trails : Slot → Type 0
 Trails vacant = Unit {0}
 Trails (held t) = 1 ≤ t .terms .trail
 
-consistent-trails : (t : StopEntry) → consistent t ≡ true → 1 ≤ t .terms .trail
-unfolding consistent inconsistencyOf
-consistent-trails t e = cases (eqb (t .terms .trail) 0)
-    (λ f. absurd (false≢true (rw (f, consistent) at e)))
-    (λ f. omega (arith, eqb-false (t .terms .trail) 0 f))
-
 slot-sound-trails : (next tick : ℕ) (s : Slot) → soundStop next tick s ≡ true → Trails s
-unfolding soundStop
 slot-sound-trails next tick vacant e = tt
-slot-sound-trails next tick (held t) e =
-    let h = and-parts (leb 1 (t .quantity .0)) _ (and-parts (ltb (seqOf t) next) _ e .1) in
-    consistent-trails t (and-parts (consistent t) _ (h .1) .0)
+slot-sound-trails next tick (held t) e = consistent-parts t (sound-parts next tick t e .terms) .0
 
 pub trails-of-sound : (next tick : ℕ) (ss : List Slot) → All (λ s. soundStop next tick s ≡ true) ss → All Trails ss
 trails-of-sound next tick ss h = all-map (slot-sound-trails next tick) ss h

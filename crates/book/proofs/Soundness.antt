@@ -1,0 +1,55 @@
+-- A sound stop, part by part; a stop stays sound when the next sequence goes up.
+use Prim.Native.Nat.{ℕ, _≤_, _<_}
+use native.Mathlib.Omega.{arith}
+use mathlib.Core.Path.{_≡_, refl}
+use mathlib.Core.Bool.{true, false, false≢true}
+use borrow.Author.Tests.{ltb-true, lt-ltb, leb-true, le-leb, eqb-false, ne-eqb, not-true}
+use borrow.Table.Steps.{cases}
+use lib.Dec.{ltb, leb, eqb}
+use Rattle.pricelevel.proofs.Bools.{and-parts}
+use Rattle.pricelevel.specs.Tick.{onTick}
+use Rattle.stop_terms.specs.Terms.{behind, inconsistencyOf}
+use Rattle.book.specs.Book.{Slot, vacant, held, seqOf}
+use Rattle.book.specs.Store.{withinWatermark}
+use Rattle.book.specs.Words.{consistent, soundStop}
+use Rattle.book.specs.declared.StopEntry.{StopEntry}
+
+pub consistent-parts : (t : StopEntry) → consistent t ≡ true → (1 ≤ t .terms .trail) × (withinWatermark (t .terms) ≡ true)
+unfolding consistent inconsistencyOf withinWatermark
+consistent-parts t h = cases (eqb (t .terms .trail) 0)
+    (λ e. absurd (false≢true (rw (e, consistent) at h)))
+    (λ e. cases (behind (t .terms .side) (t .terms .watermark .0) (t .terms .stop .0))
+    (λ f. absurd (false≢true (rw (e, f, consistent) at h)))
+    (λ f. (omega (arith, eqb-false (t .terms .trail) 0 e), rw f)))
+
+pub consistent-of : (t : StopEntry) → 1 ≤ t .terms .trail → withinWatermark (t .terms) ≡ true → consistent t ≡ true
+unfolding consistent inconsistencyOf withinWatermark
+consistent-of t h e =
+    let f : behind (t .terms .side) (t .terms .watermark .0) (t .terms .stop .0) ≡ false = not-true _ e in
+    rw (ne-eqb (t .terms .trail) 0 (λ q. omega arith), f, consistent)
+
+pub record Sound (next tick : ℕ) (t : StopEntry) : Type 0 where
+  pub sequence : seqOf t < next
+  pub quantity : 1 ≤ t .quantity .0
+  pub terms : consistent t ≡ true
+  pub on-tick : onTick tick (t .terms .trail) ≡ true
+
+pub sound-parts : (next tick : ℕ) (t : StopEntry) → soundStop next tick (held t) ≡ true → Sound next tick t
+unfolding soundStop
+sound-parts next tick t e =
+    let s = and-parts (ltb (seqOf t) next) _ e in
+    let q = and-parts (leb 1 (t .quantity .0)) _ (s .1) in
+    let c = and-parts (consistent t) _ (q .1) in
+    record { sequence = ltb-true _ _ (s .0); quantity = leb-true _ _ (q .0); terms = c .0; on-tick = c .1 }
+
+pub sound-of : (next tick : ℕ) (t : StopEntry) → Sound next tick t → soundStop next tick (held t) ≡ true
+unfolding soundStop
+sound-of next tick t s =
+    rw (lt-ltb (seqOf t) next (s .sequence), le-leb 1 (t .quantity .0) (s .quantity), s .terms, s .on-tick)
+
+pub sound-later : (m n tick : ℕ) (s : Slot) → m ≤ n → soundStop m tick s ≡ true → soundStop n tick s ≡ true
+unfolding soundStop
+sound-later m n tick vacant h e = refl
+sound-later m n tick (held t) h e =
+    let s = sound-parts m tick t e in
+    sound-of n tick t (record { sequence = omega (arith, s .sequence); quantity = s .quantity; terms = s .terms; on-tick = s .on-tick })
