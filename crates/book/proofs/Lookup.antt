@@ -14,7 +14,7 @@ use Rattle.pricelevel.specs.declared.Side.{Side}
 use Rattle.pricelevel.specs.declared.Side.the-variants.{Buy, Sell}
 use Rattle.book.proofs.ChainIndices.{sort-all}
 use Rattle.book.proofs.Lists.{All, all-map, all-append, all-append-parts, getD-all}
-use Rattle.book.specs.Book.{Slot, vacant, held, Book, Chain, byStop, chainSide, before, Pending, sideOf, withIndex, gather, insert, sort, ofSide, pendingOn, chain}
+use Rattle.book.specs.Book.{Slot, vacant, held, Book, Chain, ByStop, chainSide, before, Pending, sideOf, withIndex, gather, insert, sort, ofSide, pendingOn, chain}
 use Rattle.book.specs.Store.{named, lookup, isSome, isPending}
 use Rattle.book.specs.declared.StopEntry.{StopEntry}
 
@@ -144,8 +144,8 @@ named-none id (q ∷ l) e = cases (sameId id (q .entry .id))
 pub lookup-found : (id : Id) (b : Book) (p : Pending) → lookup id b ≡ some p → InBook (b .slots) p × (sameId id (p .entry .id) ≡ true)
 unfolding lookup
 lookup-found id b p e =
-    named-found (InBook (b .slots)) id (chain (byStop Sell) (b .slots) ++ chain (byStop Buy) (b .slots)) p
-    (all-append (InBook (b .slots)) (chain (byStop Sell) (b .slots)) (chain (byStop Buy) (b .slots)) (chain-in-book (byStop Sell) (b .slots)) (chain-in-book (byStop Buy) (b .slots))) e
+    named-found (InBook (b .slots)) id (chain (ByStop Sell) (b .slots) ++ chain (ByStop Buy) (b .slots)) p
+    (all-append (InBook (b .slots)) (chain (ByStop Sell) (b .slots)) (chain (ByStop Buy) (b .slots)) (chain-in-book (ByStop Sell) (b .slots)) (chain-in-book (ByStop Buy) (b .slots))) e
 
 -- a record that does not hold a stop of this identity
 abbrev pub Unnamed : Id → Slot → Type 0
@@ -159,16 +159,16 @@ lookup-none id b e = getD-all (Unnamed id) (b .slots) vacant (λ k h. go k h (ge
     Other : Pending → Type 0
     Other p = sameId id (p .entry .id) ≡ false
 
-    apart : All Other (chain (byStop Sell) (b .slots)) × All Other (chain (byStop Buy) (b .slots))
-    apart = all-append-parts Other (chain (byStop Sell) (b .slots)) (chain (byStop Buy) (b .slots)) (named-none id _ e)
+    apart : All Other (chain (ByStop Sell) (b .slots)) × All Other (chain (ByStop Buy) (b .slots))
+    apart = all-append-parts Other (chain (ByStop Sell) (b .slots)) (chain (ByStop Buy) (b .slots)) (named-none id _ e)
 
     go : (k : ℕ) → k < length (b .slots) → (s : Slot) → getD (b .slots) k vacant ≡ s → Unnamed id s
     go k h vacant q = tt
     go k h (held t) q = side (sideOf t) refl
       where
         side : (d : Side) → d ≡ sideOf t → sameId id (t .id) ≡ false
-        side Sell f = chain-all Other (byStop Sell) (b .slots) (apart .0) k t h q f
-        side Buy f = chain-all Other (byStop Buy) (b .slots) (apart .1) k t h q f
+        side Sell f = chain-all Other (ByStop Sell) (b .slots) (apart .0) k t h q f
+        side Buy f = chain-all Other (ByStop Buy) (b .slots) (apart .1) k t h q f
 
 pub isPending-none : (id : Id) (b : Book) → isPending id b ≡ false → lookup id b ≡ none
 unfolding isPending isSome

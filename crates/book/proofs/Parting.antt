@@ -15,7 +15,7 @@ use Rattle.pricelevel.specs.declared.Side.the-variants.{Buy, Sell}
 use Rattle.stop_terms.specs.Terms.{behind}
 use Rattle.stop_terms.proofs.Terms.{tests, behind-past, behind-asym}
 use Rattle.book.proofs.Lists.{All}
-use Rattle.book.specs.Book.{Slot, Chain, byStop, stopOf, seqOf, lexicographic, before, Pending, withIndex, gather, insert, sort, ofSide}
+use Rattle.book.specs.Book.{Slot, Chain, ByStop, stopOf, seqOf, lexicographic, before, Pending, withIndex, gather, insert, sort, ofSide}
 use Rattle.book.specs.declared.StopEntry.{StopEntry}
 
 -- what a record gives up at first, what it gives up then, and what it gives up at once
@@ -92,11 +92,11 @@ Met d p t = behind d (stopOf t) (p .0) ≡ false
 abbrev pub Unmet : Side → Price → StopEntry → Type 0
 Unmet d p t = behind d (stopOf t) (p .0) ≡ true
 
-before-byStop : (d : Side) (x y : StopEntry)
-    → before (byStop d) x y ≡ lexicographic (behind d (stopOf y) (stopOf x)) (stopOf x) (stopOf y) (ltb (seqOf x) (seqOf y))
+before-ByStop : (d : Side) (x y : StopEntry)
+    → before (ByStop d) x y ≡ lexicographic (behind d (stopOf y) (stopOf x)) (stopOf x) (stopOf y) (ltb (seqOf x) (seqOf y))
 unfolding before behind
-before-byStop Sell x y = refl
-before-byStop Buy x y = refl
+before-ByStop Sell x y = refl
+before-ByStop Buy x y = refl
 
 behind-differs : (d : Side) (a b : ℕ) → behind d a b ≡ true → eqb a b ≡ false
 unfolding behind
@@ -104,13 +104,13 @@ behind-differs Sell a b h = ne-eqb a b (λ e. omega (arith, tests))
 behind-differs Buy a b h = ne-eqb a b (λ e. omega (arith, tests))
 
 -- the stops that a price meets come before those that it does not meet
-pub stops-apart : (d : Side) (p : Price) → Apart (byStop d) (Met d p) (Unmet d p)
+pub stops-apart : (d : Side) (p : Price) → Apart (ByStop d) (Met d p) (Unmet d p)
 unfolding lexicographic
 stops-apart d p = record {
-  first = λ x y e l. rw (before-byStop d x y, behind-past d (stopOf y) (p .0) (stopOf x) l e);
+  first = λ x y e l. rw (before-ByStop d x y, behind-past d (stopOf y) (p .0) (stopOf x) l e);
   second = λ x y e l.
       let h = behind-past d (stopOf y) (p .0) (stopOf x) l e in
-      rw (before-byStop d y x, behind-asym d (stopOf y) (stopOf x) h, behind-differs d (stopOf y) (stopOf x) h);
+      rw (before-ByStop d y x, behind-asym d (stopOf y) (stopOf x) h, behind-differs d (stopOf y) (stopOf x) h);
 }
 
 pub part-early : (d s : Side) (p : Price) (t : StopEntry) → Met s p t → Part (Met d p) (Unmet d p) (ofSide d s t) none (ofSide d s t)

@@ -15,7 +15,7 @@ use Rattle.stop_terms.proofs.Terms.{behind-irrefl, past-trans}
 use Rattle.book.proofs.Lists.{All, all-map}
 use Rattle.book.proofs.Parting.{Part, never, parted, Met, Unmet, stops-apart, part-early, part-late}
 use Rattle.book.proofs.Stops.{Trails, trailed-still, trailed-keeps, trailed-again, leaves-not-behind, waits-behind, leaves-further, Settled, trailed-settled, trailed-stays}
-use Rattle.book.specs.Book.{Slot, vacant, held, Book, byStop, sideOf, watermarkOf, Pending, withIndex, gather, sort, ofSide}
+use Rattle.book.specs.Book.{Slot, vacant, held, Book, ByStop, sideOf, watermarkOf, Pending, withIndex, gather, sort, ofSide}
 use Rattle.book.specs.Evaluation.{trailed, leaves, vacatedIf, settled, leavingOn, leaver, electedOn, electedBy, freed, point}
 use Rattle.book.specs.declared.StopEntry.{StopEntry}
 
@@ -166,7 +166,7 @@ module _ (kill f g h : Bool) (o p q : Price) (d : Side) (b : Book) (op : behind 
   electedOn-merged : (e : Side) → electedOn kill q e b ≡ electedOn kill p e b ++ electedOn kill q e (point kill f p b .book)
   unfolding electedOn point
   electedOn-merged e =
-      parted (byStop e) (Met e p) (Unmet e p) (stops-apart e p) (leaver kill p e) (leaver kill q e) (leaver kill q e) (settled kill p) 1 (b .slots)
+      parted (ByStop e) (Met e p) (Unmet e p) (stops-apart e p) (leaver kill p e) (leaver kill q e) (leaver kill q e) (settled kill p) 1 (b .slots)
       (all-map (λ s v. merged kill o p q d op pq s v .part e) (b .slots) w) .joined
 
   pub electedBy-merged : electedBy kill h q b ≡ electedBy kill f p b ++ electedBy kill g q (point kill f p b .book)

@@ -30,7 +30,7 @@ use Rattle.book.specs.declared.StopEntry.{StopEntry}
 abbrev pub Refused : {B : Type 0} → Answer B → Type 0
 Refused a = (k : ℕ) × (a ≡ refused k)
 
-accepted-refused : {B : Type 0} (v : B) → Refused (accepted v) → ⊥
+pub accepted-refused : {B : Type 0} (v : B) → Refused (accepted v) → ⊥
 accepted-refused v r = let e = r .1 in let z : _≡_ {A = ℕ} 0 1 = cc in omega arith
 
 -- an accepted outcome was not refused: so what is kept by every refusal is kept

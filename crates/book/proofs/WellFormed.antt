@@ -21,7 +21,7 @@ use Rattle.book.proofs.Lists.{All, all-map, all-append, all-getD, every
 use Rattle.book.proofs.Places.{layout-length, layout-count}
 use Rattle.book.proofs.Reading.{slotsAt-length, bookOf-layout}
 use Rattle.book.proofs.Validity.{Valid, valid-parts, valid-of, SlotFits, Fits}
-use Rattle.book.specs.Book.{Slot, vacant, held, Book, Chain, byStop, byWatermark, sideOf, pendingCount}
+use Rattle.book.specs.Book.{Slot, vacant, held, Book, Chain, ByStop, ByWatermark, sideOf, pendingCount}
 use Rattle.book.specs.Lists.{headOr0}
 use Rattle.book.specs.Store.{stored, storedBook}
 use Rattle.book.specs.Words.{headerLength, recordLength, storeLength, nextIn, chainIndices, header, recordWords, recordsWords, layout, recordWord, entryAt, slotAt, slotsAt, bookOf, valid, areWords, wellFormed}
@@ -166,10 +166,10 @@ module _ (b : Book) (v : Valid b) (f : Fits b) where
       omega (
         arith,
         pendingCount-most (b .slots),
-        head-word (byStop Sell),
-        head-word (byWatermark Sell),
-        head-word (byStop Buy),
-        head-word (byWatermark Buy),
+        head-word (ByStop Sell),
+        head-word (ByWatermark Sell),
+        head-word (ByStop Buy),
+        head-word (ByWatermark Buy),
         headOr0-all IsWord (b .free) (omega arith) free-words,
       )
 
@@ -177,7 +177,7 @@ module _ (b : Book) (v : Valid b) (f : Fits b) where
   unfolding recordWords
   recordWords-words i vacant h = omega (arith, nextIn-all IsWord (b .free) i (omega arith) free-words)
   recordWords-words i (held t) h =
-      omega (arith, kindNumber-most (t .id .kind), sideNumber-most (sideOf t), link-word (byStop (sideOf t)) i, link-word (byWatermark (sideOf t)) i)
+      omega (arith, kindNumber-most (t .id .kind), sideNumber-most (sideOf t), link-word (ByStop (sideOf t)) i, link-word (ByWatermark (sideOf t)) i)
 
   recordsWords-words : (i : ℕ) (ss : List Slot) → All SlotFits ss → All IsWord (recordsWords b i ss)
   unfolding recordsWords

@@ -6,6 +6,8 @@ use mathlib.Core.Option.{Option, none, some}
 use lib.Dec.{ltb, eqb}
 use Rattle.pricelevel.specs.declared.Side.{Side}
 use Rattle.pricelevel.specs.declared.Side.the-variants.{Buy, Sell}
+pub use Rattle.book.specs.declared.Chain.{Chain}
+pub use Rattle.book.specs.declared.Chain.the-variants.{ByStop, ByWatermark}
 use Rattle.book.specs.declared.StopEntry.{StopEntry}
 
 -- one of the n records
@@ -20,13 +22,9 @@ pub record Book : Type 0 where
   pub slots : List Slot
   pub free : List ℕ
 
--- the four chains
-pub data Chain : Type 0 where
-  byStop byWatermark : Side → Chain
-
 unfoldable pub chainSide : Chain → Side
-chainSide (byStop s) = s
-chainSide (byWatermark s) = s
+chainSide (ByStop s) = s
+chainSide (ByWatermark s) = s
 
 abbrev pub sideOf : StopEntry → Side
 sideOf t = t .terms .side
@@ -47,10 +45,10 @@ lexicographic earlier x y tie = earlier || (eqb x y && tie)
 -- order of chains: sell stop descending, ties sequence ascending; buy stop ascending, ties ascending; sell watermark ascending, ties
 -- ascending; buy watermark descending, ties sequence descending
 unfoldable pub before : Chain → StopEntry → StopEntry → Bool
-before (byStop Sell) x y = lexicographic (ltb (stopOf y) (stopOf x)) (stopOf x) (stopOf y) (ltb (seqOf x) (seqOf y))
-before (byStop Buy) x y = lexicographic (ltb (stopOf x) (stopOf y)) (stopOf x) (stopOf y) (ltb (seqOf x) (seqOf y))
-before (byWatermark Sell) x y = lexicographic (ltb (watermarkOf x) (watermarkOf y)) (watermarkOf x) (watermarkOf y) (ltb (seqOf x) (seqOf y))
-before (byWatermark Buy) x y = lexicographic (ltb (watermarkOf y) (watermarkOf x)) (watermarkOf x) (watermarkOf y) (ltb (seqOf y) (seqOf x))
+before (ByStop Sell) x y = lexicographic (ltb (stopOf y) (stopOf x)) (stopOf x) (stopOf y) (ltb (seqOf x) (seqOf y))
+before (ByStop Buy) x y = lexicographic (ltb (stopOf x) (stopOf y)) (stopOf x) (stopOf y) (ltb (seqOf x) (seqOf y))
+before (ByWatermark Sell) x y = lexicographic (ltb (watermarkOf x) (watermarkOf y)) (watermarkOf x) (watermarkOf y) (ltb (seqOf x) (seqOf y))
+before (ByWatermark Buy) x y = lexicographic (ltb (watermarkOf y) (watermarkOf x)) (watermarkOf x) (watermarkOf y) (ltb (seqOf y) (seqOf x))
 
 -- a pending stop with the index of its record
 pub record Pending : Type 0 where

@@ -9,7 +9,7 @@ use Rattle.pricelevel.specs.declared.Price.{Price}
 use Rattle.pricelevel.specs.declared.Side.{Side}
 use Rattle.pricelevel.specs.declared.Side.the-variants.{Buy, Sell}
 use Rattle.stop_terms.specs.Terms.{trailedAt, electedAt}
-use Rattle.book.specs.Book.{Slot, vacant, held, Book, Chain, byStop, byWatermark, Pending, gather, sort, sideOf, stopOf, ofSide}
+use Rattle.book.specs.Book.{Slot, vacant, held, Book, Chain, ByStop, ByWatermark, Pending, gather, sort, sideOf, stopOf, ofSide}
 use Rattle.book.specs.declared.LastPrice.{LastPrice}
 use Rattle.book.specs.declared.LastPrice.the-variants as last
 use Rattle.book.specs.declared.Moved.{Moved}
@@ -43,7 +43,7 @@ leaver kill price side vacant = none
 leaver kill price side (held t) = leavingOn (leaves kill price (trailed price t)) side (trailed price t)
 
 unfoldable pub electedOn : Bool → Price → Side → Book → List Pending
-electedOn kill price side b = sort (byStop side) (gather (leaver kill price side) 1 (b .slots))
+electedOn kill price side b = sort (ByStop side) (gather (leaver kill price side) 1 (b .slots))
 
 unfoldable pub electedBy : Bool → Bool → Price → Book → List Pending
 electedBy kill true price b = electedOn kill price Sell b ++ electedOn kill price Buy b
@@ -67,7 +67,7 @@ unfoldable pub movedEntry : Price → Pending → Moved
 movedEntry price p = record { id = p .entry .id; stop = trailed price (p .entry) .terms .stop }
 
 unfoldable pub movedOn : Price → Side → Book → List Moved
-movedOn price side b = map (movedEntry price) (sort (byWatermark side) (gather (mover price side) 1 (b .slots)))
+movedOn price side b = map (movedEntry price) (sort (ByWatermark side) (gather (mover price side) 1 (b .slots)))
 
 unfoldable pub movedBy : Price → Book → List Moved
 movedBy price b = movedOn price Sell b ++ movedOn price Buy b

@@ -17,7 +17,7 @@ use Rattle.pricelevel.specs.declared.Side.{Side}
 use Rattle.pricelevel.specs.declared.Side.the-variants.{Buy, Sell}
 use Rattle.stop_terms.specs.Terms.{behind, electedAt}
 use Rattle.stop_terms.specs.declared.StopTerms.{StopTerms}
-use Rattle.book.specs.Book.{Slot, vacant, held, Book, Chain, byStop, Pending, sideOf, stopOf, pendingOn, chain, pendingCount}
+use Rattle.book.specs.Book.{Slot, vacant, held, Book, Chain, ByStop, Pending, sideOf, stopOf, pendingOn, chain, pendingCount}
 use Rattle.book.specs.Lists.{headOr0, rising}
 use Rattle.book.specs.Path.{closed}
 use Rattle.book.specs.Questions.{Question, question, firstNo, decide}
@@ -77,7 +77,7 @@ named id (p ∷ l) = cond (sameId id (p .entry .id)) (some p) (named id l)
 
 -- along the sell stop chain, then the buy stop chain
 unfoldable pub lookup : Id → Book → Option Pending
-lookup id b = named id (chain (byStop Sell) (b .slots) ++ chain (byStop Buy) (b .slots))
+lookup id b = named id (chain (ByStop Sell) (b .slots) ++ chain (ByStop Buy) (b .slots))
 
 unfoldable pub isSome : {A : Type 0} → Option A → Bool
 isSome none = false

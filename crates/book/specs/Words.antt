@@ -13,7 +13,7 @@ use Rattle.pricelevel.specs.declared.IdKind.the-variants.{Uuid, Ulid, Sequentia
 use Rattle.pricelevel.specs.declared.Side.{Side}
 use Rattle.pricelevel.specs.declared.Side.the-variants.{Buy, Sell}
 use Rattle.stop_terms.specs.Terms.{inconsistencyOf}
-use Rattle.book.specs.Book.{Slot, vacant, held, Book, Chain, byStop, byWatermark, sideOf, stopOf, watermarkOf, seqOf, chain, indices, pendingCount}
+use Rattle.book.specs.Book.{Slot, vacant, held, Book, Chain, ByStop, ByWatermark, sideOf, stopOf, watermarkOf, seqOf, chain, indices, pendingCount}
 use Rattle.book.specs.Lists.{headOr0, rising, every, sameList}
 use Rattle.book.specs.declared.StopEntry.{StopEntry}
 
@@ -46,8 +46,8 @@ chainIndices c b = indices (chain c (b .slots))
 unfoldable pub header : Book → List ℕ
 header b =
     length (b .slots) ∷ pendingCount (b .slots) ∷ b .next ∷ b .tick
-    ∷ headOr0 (chainIndices (byStop Sell) b) ∷ headOr0 (chainIndices (byWatermark Sell) b)
-    ∷ headOr0 (chainIndices (byStop Buy) b) ∷ headOr0 (chainIndices (byWatermark Buy) b)
+    ∷ headOr0 (chainIndices (ByStop Sell) b) ∷ headOr0 (chainIndices (ByWatermark Sell) b)
+    ∷ headOr0 (chainIndices (ByStop Buy) b) ∷ headOr0 (chainIndices (ByWatermark Buy) b)
     ∷ headOr0 (b .free) ∷ []
 
 -- kind, identity high, identity low, side, stop, watermark, trail, quantity, sequence, next by stop, next by watermark; the free chain
@@ -57,7 +57,7 @@ recordWords b i vacant = replicate 9 0 ++ (nextIn (b .free) i ∷ 0 ∷ [])
 recordWords b i (held t) =
     kindNumber (t .id .kind) ∷ t .id .high ∷ t .id .low ∷ sideNumber (sideOf t) ∷ stopOf t ∷ watermarkOf t ∷ t .terms .trail
     ∷ t .quantity .0 ∷ seqOf t
-    ∷ nextIn (chainIndices (byStop (sideOf t)) b) i ∷ nextIn (chainIndices (byWatermark (sideOf t)) b) i ∷ []
+    ∷ nextIn (chainIndices (ByStop (sideOf t)) b) i ∷ nextIn (chainIndices (ByWatermark (sideOf t)) b) i ∷ []
 
 unfoldable pub recordsWords : Book → ℕ → List Slot → List ℕ
 recordsWords b i [] = []

@@ -16,6 +16,12 @@ pub struct StopEntry {
     pub seq: Seq,
 }
 
+// The four chains of a store: a side's stops by stop price, in the order of election, and by watermark, in the order of trailing.
+pub enum Chain {
+    ByStop(Side),
+    ByWatermark(Side),
+}
+
 // A change of a pending stop. Its watermark and trail stay.
 pub enum OrderUpdate {
     UpdateQuantity(Quantity),

@@ -1,0 +1,87 @@
+-- How many stops a point takes out and how many it moves.
+use Prim.Native.Nat.{ℕ, suc, _≤_, _+_}
+use mathlib.Core.Path.{_≡_, refl, ap, _∙_}
+use mathlib.Core.Bool.{Bool, true, false}
+use mathlib.Core.List.{List, [], _∷_, map}
+use native.Mathlib.Omega.{arith}
+use borrow.Table.Steps.{cases}
+use lib.Dec.{eqb}
+use lib.ListN.{length, length-append, length-map}
+use Rattle.pricelevel.specs.declared.Price.{Price}
+use Rattle.pricelevel.specs.declared.Side.{Side}
+use Rattle.pricelevel.specs.declared.Side.the-variants.{Buy, Sell}
+use Rattle.book.specs.Book.{Slot, vacant, held, Book, Chain, Pending, sideOf, stopOf, before, insert, sort, withIndex, gather, ofSide, pendingCount}
+use Rattle.book.specs.Evaluation.{trailed, leaves, vacatedIf, settled, leavingOn, leaver, electedOn, electedBy, changedOn, mover, movedOn, movedBy, fillAt, point}
+use Rattle.book.specs.declared.StopEntry.{StopEntry}
+
+------------------------------------------------------------------------
+-- Lengths
+
+pub length-insert : (c : Chain) (p : Pending) (ps : List Pending) → length (insert c p ps) ≡ suc (length ps)
+unfolding insert
+length-insert c p [] = refl
+length-insert c p (q ∷ ps) = cases (before c (p .entry) (q .entry)) (λ e. rw e) (λ e. rw (e, length-insert c p ps))
+
+pub length-sort : (c : Chain) (ps : List Pending) → length (sort c ps) ≡ length ps
+unfolding sort
+length-sort c [] = refl
+length-sort c (p ∷ ps) = length-insert c p (sort c ps) ∙ ap suc (length-sort c ps)
+
+-- a stop is of one side
+pub length-ofSide : (i : ℕ) (side : Side) (t : StopEntry) (ps qs : List Pending)
+    → length (withIndex i (ofSide Sell side t) ps) + length (withIndex i (ofSide Buy side t) qs) ≡ suc (length ps + length qs)
+unfolding ofSide withIndex
+length-ofSide i Sell t ps qs = omega arith
+length-ofSide i Buy t ps qs = omega arith
+
+------------------------------------------------------------------------
+-- The stops that a point takes out
+
+pub pendingCount-settled : (kill : Bool) (price : Price) (i : ℕ) (ss : List Slot)
+    → pendingCount ss
+    ≡ pendingCount (map (settled kill price) ss) + (length (gather (leaver kill price Sell) i ss) + length (gather (leaver kill price Buy) i ss))
+unfolding pendingCount settled vacatedIf gather leaver leavingOn withIndex
+pendingCount-settled kill price i [] = refl
+pendingCount-settled kill price i (vacant ∷ ss) = pendingCount-settled kill price (suc i) ss
+pendingCount-settled kill price i (held t ∷ ss) =
+    let ih = pendingCount-settled kill price (suc i) ss in
+    let u : StopEntry = trailed price t in
+    let both = length-ofSide i (sideOf u) u (gather (leaver kill price Sell) (suc i) ss) (gather (leaver kill price Buy) (suc i) ss) in
+    cases (leaves kill price u) (λ e. rw e (omega arith)) (λ e. rw e (omega arith))
+
+pub electedBy-length : (kill sellsFirst : Bool) (price : Price) (b : Book)
+    → length (electedBy kill sellsFirst price b) ≡ length (gather (leaver kill price Sell) 1 (b .slots)) + length (gather (leaver kill price Buy) 1 (b .slots))
+unfolding electedBy electedOn
+electedBy-length kill true price b = simp (length-append, length-sort)
+electedBy-length kill false price b = simp (length-append, length-sort) (omega arith)
+
+pub point-count : (kill sellsFirst : Bool) (price : Price) (b : Book)
+    → pendingCount (b .slots) ≡ pendingCount (point kill sellsFirst price b .book .slots) + length (point kill sellsFirst price b .fills)
+unfolding point
+point-count kill sellsFirst price b =
+    rw (length-map (electedBy kill sellsFirst price b) (fillAt price), electedBy-length kill sellsFirst price b)
+    (pendingCount-settled kill price 1 (b .slots))
+
+------------------------------------------------------------------------
+-- The stops that a point moves
+
+pub movers-count : (price : Price) (i : ℕ) (ss : List Slot)
+    → length (gather (mover price Sell) i ss) + length (gather (mover price Buy) i ss) ≤ pendingCount ss
+unfolding pendingCount gather mover changedOn withIndex
+movers-count price i [] = omega arith
+movers-count price i (vacant ∷ ss) = movers-count price (suc i) ss
+movers-count price i (held t ∷ ss) =
+    let ih = movers-count price (suc i) ss in
+    let both = length-ofSide i (sideOf t) t (gather (mover price Sell) (suc i) ss) (gather (mover price Buy) (suc i) ss) in
+    cases (eqb (stopOf (trailed price t)) (stopOf t)) (λ e. rw e (omega arith)) (λ e. rw e (omega arith))
+
+pub point-moves : (kill sellsFirst : Bool) (price : Price) (b : Book) → length (point kill sellsFirst price b .moved) ≤ pendingCount (b .slots)
+unfolding point movedBy movedOn
+point-moves kill sellsFirst price b = simp (length-append, length-map, length-sort) (movers-count price 1 (b .slots))
+
+------------------------------------------------------------------------
+-- The records
+
+pub point-records : (kill sellsFirst : Bool) (price : Price) (b : Book) → length (point kill sellsFirst price b .book .slots) ≡ length (b .slots)
+unfolding point
+point-records kill sellsFirst price b = length-map (b .slots) (settled kill price)

@@ -1,0 +1,111 @@
+-- One record through a point: it stays sound, apart from the other records, and of words.
+use Prim.Native.Nat.{ℕ, _<_, _+_, _^_}
+use mathlib.Core.Path.{_≡_, refl}
+use mathlib.Core.Bool.{Bool, true}
+use mathlib.Core.List.{List, [], _∷_, map}
+use native.Mathlib.Omega.{arith}
+use borrow.Table.Steps.{cases}
+use lib.Dec.{leb, ltb}
+use Rattle.pricelevel.proofs.Bools.{and-parts}
+use Rattle.pricelevel.specs.declared.Price.{Price}
+use Rattle.pricelevel.specs.declared.Side.{Side}
+use Rattle.pricelevel.specs.declared.Side.the-variants.{Buy, Sell}
+use Rattle.stop_terms.proofs.Terms.{behind-under, behind-asym, tightened-behind}
+use Rattle.stop_terms.specs.Terms.{behind, candidate, tightened, ratcheted, trailedAt}
+use Rattle.book.proofs.Consistency.{consistent-parts, consistent-of}
+use Rattle.book.proofs.Lists.{All, all-map, every-all, all-every}
+use Rattle.book.proofs.Points.{all-mapped}
+use Rattle.book.proofs.Stops.{trailed-keeps}
+use Rattle.book.proofs.Validity.{StopFits, SlotFits}
+use Rattle.book.specs.Book.{Slot, vacant, held, seqOf}
+use Rattle.book.specs.Evaluation.{trailed, leaves, vacatedIf, settled}
+use Rattle.book.specs.Lists.{every}
+use Rattle.book.specs.Words.{consistent, soundStop, differs, allDiffer}
+use Rattle.book.specs.declared.StopEntry.{StopEntry}
+
+-- what a point keeps of each record it keeps of all
+pub all-settled : (P Q : Slot → Type 0) (kill : Bool) (price : Price) → ((s : Slot) → P s → Q (settled kill price s)) → (ss : List Slot) → All P ss
+    → All Q (map (settled kill price) ss)
+all-settled P Q kill price f ss h = all-mapped Q (settled kill price) ss (all-map f ss h)
+
+-- what holds of a free record, and of a stop after trailing, holds of a record after a point
+pub settled-keeps : (P : Slot → Type 0) (kill : Bool) (price : Price) (s : Slot) → P vacant → ((t : StopEntry) → s ≡ held t → P (held (trailed price t)))
+    → P (settled kill price s)
+unfolding settled vacatedIf
+settled-keeps P kill price vacant h k = h
+settled-keeps P kill price (held t) h k = cases (leaves kill price (trailed price t)) (λ e. rw e h) (λ e. rw e (k t refl))
+
+------------------------------------------------------------------------
+-- Soundness
+
+pub trailed-consistent : (price : Price) (t : StopEntry) → consistent t ≡ true → consistent (trailed price t) ≡ true
+unfolding trailed trailedAt ratcheted
+trailed-consistent price t e =
+    let h = consistent-parts t e in
+    let s : Side = t .terms .side in
+    cases (behind s (t .terms .watermark .0) (price .0))
+    (λ f. consistent-of (trailed price t) (rw f (h .0)) (rw f (behind-asym s _ (price .0)
+    (tightened-behind s (t .terms .trail) (price .0) (t .terms .stop .0) (h .0) (behind-under s _ _ _ (h .1) f)))))
+    (λ f. consistent-of (trailed price t) (rw f (h .0)) (rw f (h .1)))
+
+pub trailed-sound : (next tick : ℕ) (price : Price) (t : StopEntry) → soundStop next tick (held t) ≡ true → soundStop next tick (held (trailed price t)) ≡ true
+unfolding soundStop trailed
+trailed-sound next tick price t e =
+    let s = and-parts (ltb (seqOf t) next) _ e in
+    let q = and-parts (leb 1 (t .quantity .0)) _ (s .1) in
+    let c = and-parts (consistent t) _ (q .1) in
+    rw (s .0, q .0, trailed-consistent price t (c .0), trailed-keeps price t .1, c .1)
+
+pub settled-sound : (next tick : ℕ) (kill : Bool) (price : Price) (s : Slot) → soundStop next tick s ≡ true → soundStop next tick (settled kill price s) ≡ true
+unfolding soundStop
+settled-sound next tick kill price s e =
+    settled-keeps (λ u. soundStop next tick u ≡ true) kill price s refl (λ t f. trailed-sound next tick price t (rw f at e))
+
+------------------------------------------------------------------------
+-- Identities and sequences
+
+-- a record that differs from a stop still does after a point, and from the stop after trailing
+pub settled-differs : (kill : Bool) (price : Price) (t : StopEntry) (s : Slot) → differs t s ≡ true → differs (trailed price t) (settled kill price s) ≡ true
+unfolding differs trailed
+settled-differs kill price t s e =
+    settled-keeps (λ u. differs (trailed price t) u ≡ true) kill price s refl (λ u f. rw f at e)
+
+pub settled-allDiffer : (kill : Bool) (price : Price) (ss : List Slot) → allDiffer ss ≡ true → allDiffer (map (settled kill price) ss) ≡ true
+unfolding allDiffer settled vacatedIf
+settled-allDiffer kill price [] e = refl
+settled-allDiffer kill price (vacant ∷ ss) e = settled-allDiffer kill price ss e
+settled-allDiffer kill price (held t ∷ ss) e =
+    let h = and-parts (every (differs t) ss) _ e in
+    let ih = settled-allDiffer kill price ss (h .1) in
+    cases (leaves kill price (trailed price t)) (λ f. rw f ih)
+    (λ f. rw (
+      f,
+      all-every (differs (trailed price t)) (map (settled kill price) ss)
+          (all-settled (λ s. differs t s ≡ true) (λ s. differs (trailed price t) s ≡ true) kill price (settled-differs kill price t) ss
+          (every-all (differs t) ss (h .0))),
+    ) ih)
+
+------------------------------------------------------------------------
+-- Words
+
+pub tightened-fits : (s : Side) (trail price stop : ℕ) → price < 2 ^ 64 → stop < 2 ^ 64 → tightened s stop (candidate s trail price) < 2 ^ 64
+unfolding tightened candidate
+tightened-fits Sell trail price stop h k = cases (leb trail price) (λ e. rw e (omega arith)) (λ e. rw e k)
+tightened-fits Buy trail price stop h k = cases (ltb (price + trail) (2 ^ 64)) (λ e. rw e (omega arith)) (λ e. rw e k)
+
+pub trailed-fits : (price : Price) (t : StopEntry) → price .0 < 2 ^ 64 → StopFits t → StopFits (trailed price t)
+unfolding trailed trailedAt ratcheted
+trailed-fits price t h k = cases (behind (t .terms .side) (t .terms .watermark .0) (price .0))
+    (λ e. record {
+      high = k .high;
+      low = k .low;
+      stop = rw e (tightened-fits (t .terms .side) (t .terms .trail) (price .0) (t .terms .stop .0) h (k .stop));
+      watermark = rw e h;
+      trail = rw e (k .trail);
+      quantity = k .quantity;
+      seq = k .seq;
+    })
+    (λ e. rw (trailed, e) k)
+
+pub settled-fits : (kill : Bool) (price : Price) → price .0 < 2 ^ 64 → (s : Slot) → SlotFits s → SlotFits (settled kill price s)
+settled-fits kill price h s k = settled-keeps SlotFits kill price s tt (λ t e. trailed-fits price t h (rw e at k))
