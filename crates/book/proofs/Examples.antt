@@ -25,7 +25,7 @@ use Rattle.book.specs.Lists.{headOr0, rising, every, sameList}
 use Rattle.book.specs.Path.{closed}
 use Rattle.book.specs.Questions.{firstNo, decide}
 use Rattle.book.specs.Store.{PathOutcome, stored, storedBook, emptyBook, layOut, named, lookup, isSome, isPending, withinWatermark, notTriggered, admissionQuestions, admitted, newEntry, pathAfterAdmission, admit}
-use Rattle.book.specs.Words.{nextIn, chainIndices, header, recordWords, recordsWords, layout, recordWord, kindOf, sideFrom, entryAt, slotAt, slotsAt, freeFrom, bookOf, consistent, soundStop, differs, allDiffer, vacantIndices, insertRising, sortRising, valid, areWords, wellFormed}
+use Rattle.book.specs.Words.{nextIn, chainIndices, header, recordWords, recordsWords, layout, cell, recordWord, kindOf, sideFrom, entryAt, slotAt, slotsAt, freeFrom, bookOf, consistent, soundStop, differs, allDiffer, vacantIndices, insertRising, sortRising, valid, areWords, wellFormed}
 use Rattle.book.specs.declared.Elected.{Elected}
 use Rattle.book.specs.declared.LastPrice.{LastPrice}
 use Rattle.book.specs.declared.LastPrice.the-variants as last
@@ -207,5 +207,5 @@ expected : List (List (List ℕ))
 expected = map (λ e. e .expected) table
 
 examples : found ≡ expected
-unfolding price sequential terms plain blank unmoved closedPath admitInto segmentOver walkOver toldSeq toldCounts line movedLine segmentLines walkLines admissionLines laidOut forecastStore turningStore bothStore tiesStore blankLine lentElected lentMoved forecastLeft sellLine buyLine example table found expected chainSide before lexicographic withIndex gather insert sort ofSide pendingOn chain indices pendingCount headOr0 rising every sameList nextIn chainIndices header recordWords recordsWords layout recordWord kindOf sideFrom entryAt slotAt slotsAt freeFrom bookOf consistent soundStop differs allDiffer vacantIndices insertRising sortRising valid areWords wellFormed sameId onTick behind inconsistencyOf candidate tightened ratcheted trailedAt elects electedAt electedEntry electedEntries written countsOf pendingIn segmentQuestions segmentCall walkQuestions walkCall trailed leaves vacatedIf settled leavingOn leaver electedOn electedBy freed changedOn mover movedEntry movedOn movedBy fillAt point sellsFirst fallsTo andThen walkFrom segment lastOf walk firstNo decide stored storedBook emptyBook layOut named lookup isSome isPending withinWatermark notTriggered admissionQuestions admitted newEntry pathAfterAdmission admit closed
+unfolding price sequential terms plain blank unmoved closedPath admitInto segmentOver walkOver toldSeq toldCounts line movedLine segmentLines walkLines admissionLines laidOut forecastStore turningStore bothStore tiesStore blankLine lentElected lentMoved forecastLeft sellLine buyLine example table found expected chainSide before lexicographic withIndex gather insert sort ofSide pendingOn chain indices pendingCount headOr0 rising every sameList nextIn chainIndices header recordWords recordsWords layout cell recordWord kindOf sideFrom entryAt slotAt slotsAt freeFrom bookOf consistent soundStop differs allDiffer vacantIndices insertRising sortRising valid areWords wellFormed sameId onTick behind inconsistencyOf candidate tightened ratcheted trailedAt elects electedAt electedEntry electedEntries written countsOf pendingIn segmentQuestions segmentCall walkQuestions walkCall trailed leaves vacatedIf settled leavingOn leaver electedOn electedBy freed changedOn mover movedEntry movedOn movedBy fillAt point sellsFirst fallsTo andThen walkFrom segment lastOf walk firstNo decide stored storedBook emptyBook layOut named lookup isSome isPending withinWatermark notTriggered admissionQuestions admitted newEntry pathAfterAdmission admit closed
 examples = refl

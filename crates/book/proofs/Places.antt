@@ -6,7 +6,7 @@ use native.Mathlib.Omega.{arith}
 use lib.ListN.{length, getD, length-append, List·getD-append}
 use lib.Seq.{getD-append-add}
 use Rattle.book.specs.Book.{Slot, vacant, held, Book}
-use Rattle.book.specs.Words.{headerLength, recordLength, storeLength, header, recordWords, recordsWords, layout, recordWord}
+use Rattle.book.specs.Words.{headerLength, recordLength, storeLength, header, recordWords, recordsWords, layout, cell, recordWord}
 
 ------------------------------------------------------------------------
 -- Lengths
@@ -59,7 +59,7 @@ recordsWords-record b i (s ∷ ss) r (suc m) k h l =
 -- word k of record i
 pub layout-record : (b : Book) (r : List ℕ) (i k : ℕ) → 1 ≤ i → i ≤ length (b .slots) → k < recordLength
     → recordWord (layout b ++ r) i k ≡ getD (recordWords b i (getD (b .slots) (i - 1) vacant)) k 0
-unfolding layout recordWord
+unfolding layout recordWord cell
 layout-record b r i k low high l =
     let z : headerLength + recordLength * (i - 1) + k ≡ length (header b) + (recordLength * (i - 1) + k) = omega (arith, header-length b) in
     let e : 1 + (i - 1) ≡ i = omega arith in

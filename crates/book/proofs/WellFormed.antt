@@ -24,7 +24,7 @@ use Rattle.book.proofs.Validity.{Valid, valid-parts, valid-of, SlotFits
 use Rattle.book.specs.Book.{Slot, vacant, held, Book, Chain, ByStop, ByWatermark, sideOf, pendingCount}
 use Rattle.book.specs.Lists.{headOr0}
 use Rattle.book.specs.Store.{stored, storedBook}
-use Rattle.book.specs.Words.{headerLength, recordLength, storeLength, nextIn, chainIndices, header, recordWords, recordsWords, layout, recordWord, entryAt, slotAt, slotsAt, bookOf, valid, areWords, wellFormed}
+use Rattle.book.specs.Words.{headerLength, recordLength, storeLength, nextIn, chainIndices, header, recordWords, recordsWords, layout, cell, recordWord, entryAt, slotAt, slotsAt, bookOf, valid, areWords, wellFormed}
 
 ------------------------------------------------------------------------
 -- Words
@@ -89,7 +89,7 @@ module _ (w : List ℕ) (e : wellFormed w ≡ true) where
       rw getD-take at (all-getD IsWord (take (storeLength (getD w 0 0)) w) p 0 (omega arith) (wellFormed-parts w e .are-words))
 
   recordWord-fits : (i k : ℕ) → 1 ≤ i → i ≤ getD w 0 0 → k < recordLength → IsWord (recordWord w i k)
-  unfolding recordWord
+  unfolding recordWord cell
   recordWord-fits i k low high h = wellFormed-word (headerLength + recordLength * (i - 1) + k) (omega arith)
 
   slotAt-fits : (i : ℕ) → 1 ≤ i → i ≤ getD w 0 0 → SlotFits (slotAt w i)

@@ -69,9 +69,12 @@ layout b = header b ++ recordsWords b 1 (b .slots)
 ------------------------------------------------------------------------
 -- From words to a book
 
--- word k of record i
+-- where word k of record i stands, and the word
+unfoldable pub cell : ℕ → ℕ → ℕ
+cell i k = headerLength + recordLength * (i - 1) + k
+
 unfoldable pub recordWord : List ℕ → ℕ → ℕ → ℕ
-recordWord w i k = getD w (headerLength + recordLength * (i - 1) + k) 0
+recordWord w i k = getD w (cell i k) 0
 
 unfoldable pub kindOf : ℕ → IdKind
 kindOf zero = Uuid
