@@ -1,0 +1,4 @@
+pub mod Indices
+pub mod Links
+pub mod Rank
+pub mod Records
