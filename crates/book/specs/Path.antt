@@ -33,6 +33,10 @@ lastOr first (last.At p) = p
 unfoldable pub segmentOf : PrintPath → LastPrice → PrintSegment
 segmentOf path trade = record { prev = prevOf path; first = path .first; last = lastOr (path .first) trade }
 
--- take: none if closed; what is taken is closed too
-unfoldable pub taken : PrintPath → LastPrice → Option PrintSegment
-taken path trade = cond (path .«open») (some (segmentOf path trade)) none
+-- take: none if closed; only closes it
+pub record TakeOutcome : Type 0 where
+  pub segment : Option PrintSegment
+  pub path : PrintPath
+
+unfoldable pub take : PrintPath → LastPrice → TakeOutcome
+take path trade = record { segment = cond (path .«open») (some (segmentOf path trade)) none; path = closed path }
