@@ -1,31 +1,26 @@
 -- One turn of each loop: the schedule grows by a word, the working variables take a step, the hash value a block.
 use Prim.Native.Nat.{ℕ, _+_, _-_, _≤_, _<_}
-use mathlib.Core.Path.{_≡_, refl, sym, ap, _∙_}
-use mathlib.Core.Bool.{Bool, true, false}
-use mathlib.Core.Logic.{_⊎_, inl, inr, ⊎-elim}
+use mathlib.Core.Path.{_≡_, sym, ap, _∙_}
+use mathlib.Core.Bool.{true, false}
 use mathlib.Core.List.{List, [], _∷_, _++_}
 use native.Mathlib.Omega.{arith}
 use native.Mathlib.Numerals.{add-one}
 use borrow.Author.Tests.{ltb-false}
+use borrow.Table.Steps.{cases}
 use lib.Dec.{ltb}
 use lib.ListN.{length, getD, take, set}
 use lib.Seq.{getD-take, take-suc-set}
 use Rattle.sha1.specs.Fips.{nextWord, schedule, step, steps, block, blocks}
 use Rattle.sha1.specs.declared.State.{State}
 
-true-or-false : (b : Bool) → (b ≡ true) ⊎ (b ≡ false)
-true-or-false true = inl refl
-true-or-false false = inr refl
-
 -- W_t needs no word but those before it
 nextWord-take : (p : List ℕ) (i : ℕ) (w : List ℕ) (t : ℕ) → nextWord p i (take t w) t ≡ nextWord p i w t
 unfolding nextWord
 nextWord-take p i w t =
-    ⊎-elim (λ (e : ltb t 16 ≡ true). simp e)
+    cases (ltb t 16) (λ (e : ltb t 16 ≡ true). simp e)
     (λ (e : ltb t 16 ≡ false).
     let g : 16 ≤ t = ltb-false t 16 e in
     rw (getD-take t w (t - 3) 0 (omega arith), getD-take t w (t - 8) 0 (omega arith), getD-take t w (t - 14) 0 (omega arith), getD-take t w (t - 16) 0 (omega arith)))
-    (true-or-false (ltb t 16))
 
 pub schedule-turn : (p : List ℕ) (i : ℕ) (w : List ℕ) (t x : ℕ) → t < length w → take t w ≡ schedule p i t → x ≡ nextWord p i w t
     → take (t + 1) (set w t x) ≡ schedule p i (t + 1)
