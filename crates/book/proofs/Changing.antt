@@ -24,19 +24,14 @@ use Rattle.book.specs.declared.OrderUpdate.{OrderUpdate}
 use Rattle.book.specs.declared.OrderUpdate.the-variants.{UpdateQuantity, UpdatePrice, UpdatePriceAndQuantity, Replace}
 use Rattle.book.specs.declared.StopEntry.{StopEntry}
 
-pub changedTerms-trail : (update : OrderUpdate) (t : StopEntry) → changedTerms update t .trail ≡ t .terms .trail
+-- watermark and trail stay
+pub changedTerms-keeps : (update : OrderUpdate) (t : StopEntry)
+    → (changedTerms update t .watermark ≡ t .terms .watermark) × (changedTerms update t .trail ≡ t .terms .trail)
 unfolding changedTerms withTerms
-changedTerms-trail (UpdateQuantity quantity) t = refl
-changedTerms-trail (UpdatePrice price) t = refl
-changedTerms-trail (UpdatePriceAndQuantity price quantity) t = refl
-changedTerms-trail (Replace side price quantity) t = refl
-
-pub changedTerms-watermark : (update : OrderUpdate) (t : StopEntry) → changedTerms update t .watermark ≡ t .terms .watermark
-unfolding changedTerms withTerms
-changedTerms-watermark (UpdateQuantity quantity) t = refl
-changedTerms-watermark (UpdatePrice price) t = refl
-changedTerms-watermark (UpdatePriceAndQuantity price quantity) t = refl
-changedTerms-watermark (Replace side price quantity) t = refl
+changedTerms-keeps (UpdateQuantity quantity) t = (refl, refl)
+changedTerms-keeps (UpdatePrice price) t = (refl, refl)
+changedTerms-keeps (UpdatePriceAndQuantity price quantity) t = (refl, refl)
+changedTerms-keeps (Replace side price quantity) t = (refl, refl)
 
 -- the numbers of a change are words
 abbrev pub UpdateFits : OrderUpdate → Type 0
@@ -81,8 +76,8 @@ module _ (update : OrderUpdate) (p : Pending) (b : Book) where
   changedEntry-sound s c = record {
     sequence = cases (takesSequence update) (λ e. rw e (omega arith)) (λ e. rw e (s .sequence));
     quantity = c .some-quantity;
-    terms = consistent-of (changedEntry update (p .entry) b) (rw changedTerms-trail (consistent-parts (p .entry) (s .terms) .0)) (c .within);
-    on-tick = rw changedTerms-trail (s .on-tick);
+    terms = consistent-of (changedEntry update (p .entry) b) (rw (changedTerms-keeps update (p .entry) .1) (consistent-parts (p .entry) (s .terms) .0)) (c .within);
+    on-tick = rw (changedTerms-keeps update (p .entry) .1) (s .on-tick);
   }
 
   -- the identity stays, and the sequence stays or is new
@@ -119,8 +114,8 @@ module _ (update : OrderUpdate) (p : Pending) (b : Book) where
         high = t .high;
         low = t .low;
         stop = n .0;
-        watermark = rw changedTerms-watermark (t .watermark);
-        trail = rw changedTerms-trail (t .trail);
+        watermark = rw (changedTerms-keeps update (p .entry) .0) (t .watermark);
+        trail = rw (changedTerms-keeps update (p .entry) .1) (t .trail);
         quantity = n .1;
         seq = cases (takesSequence update) (λ e. rw e (f .next)) (λ e. rw e (t .seq));
       })

@@ -1,7 +1,7 @@
 -- How many stops a point takes out and how many it moves.
 use Prim.Native.Nat.{ℕ, suc, _≤_, _+_}
 use mathlib.Core.Path.{_≡_, refl, ap, _∙_}
-use mathlib.Core.Bool.{Bool, true, false}
+use mathlib.Core.Bool.{Bool}
 use mathlib.Core.List.{List, [], _∷_, map}
 use native.Mathlib.Omega.{arith}
 use borrow.Table.Steps.{cases}
@@ -10,8 +10,11 @@ use lib.ListN.{length, length-append, length-map}
 use Rattle.pricelevel.specs.declared.Price.{Price}
 use Rattle.pricelevel.specs.declared.Side.{Side}
 use Rattle.pricelevel.specs.declared.Side.the-variants.{Buy, Sell}
+use Rattle.book.proofs.FreeChain.{pendingCount-vacant}
+use Rattle.book.proofs.Freeing.{insertIndices-length, vacantIndices-settled, electedBy-indices}
 use Rattle.book.specs.Book.{Slot, vacant, held, Book, Chain, Pending, sideOf, stopOf, before, insert, sort, withIndex, gather, ofSide, pendingCount}
-use Rattle.book.specs.Evaluation.{trailed, leaves, vacatedIf, settled, leavingOn, leaver, electedOn, electedBy, changedOn, mover, movedOn, movedBy, fillAt, point}
+use Rattle.book.specs.Evaluation.{trailed, settled, electedBy, changedOn, mover, movedOn, movedBy, fillAt, point}
+use Rattle.book.specs.Words.{vacantIndices}
 use Rattle.book.specs.declared.StopEntry.{StopEntry}
 
 ------------------------------------------------------------------------
@@ -37,30 +40,22 @@ length-ofSide i Buy t ps qs = omega arith
 ------------------------------------------------------------------------
 -- The stops that a point takes out
 
-pub pendingCount-settled : (kill : Bool) (price : Price) (i : ℕ) (ss : List Slot)
-    → pendingCount ss
-    ≡ pendingCount (map (settled kill price) ss) + (length (gather (leaver kill price Sell) i ss) + length (gather (leaver kill price Buy) i ss))
-unfolding pendingCount settled vacatedIf gather leaver leavingOn withIndex
-pendingCount-settled kill price i [] = refl
-pendingCount-settled kill price i (vacant ∷ ss) = pendingCount-settled kill price (suc i) ss
-pendingCount-settled kill price i (held t ∷ ss) =
-    let ih = pendingCount-settled kill price (suc i) ss in
-    let u : StopEntry = trailed price t in
-    let both = length-ofSide i (sideOf u) u (gather (leaver kill price Sell) (suc i) ss) (gather (leaver kill price Buy) (suc i) ss) in
-    cases (leaves kill price u) (λ e. rw e (omega arith)) (λ e. rw e (omega arith))
-
-pub electedBy-length : (kill sellsFirst : Bool) (price : Price) (b : Book)
-    → length (electedBy kill sellsFirst price b) ≡ length (gather (leaver kill price Sell) 1 (b .slots)) + length (gather (leaver kill price Buy) 1 (b .slots))
-unfolding electedBy electedOn
-electedBy-length kill true price b = simp (length-append, length-sort)
-electedBy-length kill false price b = simp (length-append, length-sort) (omega arith)
-
+-- as many records are pending less as are vacant more
 pub point-count : (kill sellsFirst : Bool) (price : Price) (b : Book)
     → pendingCount (b .slots) ≡ pendingCount (point kill sellsFirst price b .book .slots) + length (point kill sellsFirst price b .fills)
 unfolding point
 point-count kill sellsFirst price b =
-    rw (length-map (electedBy kill sellsFirst price b) (fillAt price), electedBy-length kill sellsFirst price b)
-    (pendingCount-settled kill price 1 (b .slots))
+    let ss = b .slots in
+    let out = electedBy kill sellsFirst price b in
+    let indices = electedBy-indices kill sellsFirst price b (vacantIndices 1 ss) ∙ vacantIndices-settled kill price 1 ss in
+    rw (length-map out (fillAt price)) (omega (
+      arith,
+      pendingCount-vacant 1 ss,
+      pendingCount-vacant 1 (map (settled kill price) ss),
+      ap length indices,
+      insertIndices-length out (vacantIndices 1 ss),
+      length-map ss (settled kill price),
+    ))
 
 ------------------------------------------------------------------------
 -- The stops that a point moves

@@ -1,28 +1,26 @@
 -- Demand 3: a run of prices that never falls, or never rises, is decided by its ends.
-use Prim.Native.Nat.{ℕ, suc, _≤_, _*_}
+use Prim.Native.Nat.{ℕ, _≤_, _*_}
 use mathlib.Core.Path.{_≡_, refl, sym, ap, ap₂, _∙_}
-use mathlib.Core.Bool.{Bool, true, _&&_}
-use mathlib.Core.List.{List, [], _∷_, _++_, map}
+use mathlib.Core.Bool.{true}
+use mathlib.Core.List.{List, [], _∷_, map}
 use mathlib.Core.Option.{none}
 use native.Mathlib.Omega.{arith}
 use borrow.Author.Tests.{le-leb}
-use lib.Dec.{leb}
 use lib.ListN.{length, take, drop, length-map}
 use lib.Seq.{take-at}
 use Rattle.error.specs.Answer.{accepted}
 use Rattle.pricelevel.specs.declared.Price.{Price}
 use Rattle.pricelevel.specs.declared.Side.{Side}
-use Rattle.stop_protection.specs.Collar.{limitUnder}
-use Rattle.stop_trigger.specs.Child.{childId}
 use Rattle.book.proofs.Agreement.{Agree, segment-walk}
+use Rattle.book.proofs.Questions.{firstNo-of}
 use Rattle.book.proofs.Stops.{trails-of-sound}
 use Rattle.book.proofs.WellFormed.{wellFormed-valid}
-use Rattle.book.specs.Book.{Book, Pending, sideOf}
-use Rattle.book.specs.Calls.{Settings, Counts, mostPrices, electedEntry, electedEntries, written, countsOf, pendingIn, segmentQuestions, segmentCall, walkQuestions, walkCall}
-use Rattle.book.specs.Evaluation.{Fill, Evaluated, lastOf, segment, walk}
+use Rattle.book.specs.Book.{Book, Pending}
+use Rattle.book.specs.Calls.{Settings, mostPrices, electedEntry, electedEntries, written, countsOf, pendingIn, segmentQuestions, segmentCall, walkQuestions, walkCall}
+use Rattle.book.specs.Evaluation.{Fill, fillAt, Evaluated, lastOf, segment, walk}
 use Rattle.book.specs.Questions.{firstNo, decide}
 use Rattle.book.specs.Runs.{Monotone, Likeness, likeness, DecidedByEnds}
-use Rattle.book.specs.Store.{isPending, storedBook}
+use Rattle.book.specs.Store.{storedBook}
 use Rattle.book.specs.Words.{bookOf, wellFormed}
 use Rattle.book.specs.declared.Elected.{Elected}
 use Rattle.book.specs.declared.LastPrice.{LastPrice}
@@ -32,22 +30,12 @@ use Rattle.book.specs.declared.PrintSegment.{PrintSegment}
 ------------------------------------------------------------------------
 -- Entries: all that segment and walk must agree in comes from the stop that left and the book after it
 
+-- whatever price elects it
 likenessOf : Settings → Book → Pending → Likeness
-likenessOf s b p =
-    let t = p .entry in
-    record {
-      id = t .id;
-      side = sideOf t;
-      stop = t .terms .stop;
-      quantity = t .quantity;
-      seq = t .seq;
-      limit = limitUnder (s .protection) (sideOf t) (t .terms .stop);
-      child = childId (s .namespace) (t .id);
-      pending = isPending (childId (s .namespace) (t .id)) b;
-    }
+likenessOf s b p = likeness (electedEntry s b (fillAt (p .entry .terms .stop) p))
 
 likeness-entries : (s : Settings) (b : Book) (l : List Fill) → map likeness (map (electedEntry s b) l) ≡ map (likenessOf s b) (map (λ f. f .stop) l)
-unfolding likeness electedEntry likenessOf
+unfolding likeness electedEntry likenessOf fillAt
 likeness-entries s b [] = refl
 likeness-entries s b (f ∷ l) = ap (λ (r : List Likeness). likenessOf s b (f .stop) ∷ r) (likeness-entries s b l)
 
@@ -75,17 +63,19 @@ module _ (s : Settings) (o r : Evaluated) (a : Agree o r) where
 ------------------------------------------------------------------------
 -- The calls: every question is answered yes
 
-module _ (s : Settings) (w : List ℕ) (formed : wellFormed w ≡ true) where
-  segment-accepted : (prints : PrintSegment) (elected : List Elected) (moved : List Moved) → pendingIn w ≤ length elected → 2 * pendingIn w ≤ length moved
+module _ (w : List ℕ) (formed : wellFormed w ≡ true) where
+  segment-accepted : (elected : List Elected) (moved : List Moved) → pendingIn w ≤ length elected → 2 * pendingIn w ≤ length moved
       → firstNo (segmentQuestions w elected moved) ≡ none
-  unfolding firstNo segmentQuestions
-  segment-accepted prints elected moved h k = rw (formed, le-leb (pendingIn w) (length elected) h, le-leb (2 * pendingIn w) (length moved) k)
+  unfolding segmentQuestions
+  segment-accepted elected moved h k =
+      firstNo-of (segmentQuestions w elected moved) (formed, (rw (le-leb (pendingIn w) (length elected) h, le-leb (2 * pendingIn w) (length moved) k), tt))
 
   walk-accepted : (prices : List Price) (elected : List Elected) → pendingIn w ≤ length elected → 1 ≤ length prices → length prices ≤ mostPrices
       → firstNo (walkQuestions prices w elected) ≡ none
-  unfolding firstNo walkQuestions
+  unfolding walkQuestions
   walk-accepted prices elected h k l =
-      rw (formed, le-leb (pendingIn w) (length elected) h, le-leb 1 (length prices) k, le-leb (length prices) mostPrices l)
+      firstNo-of (walkQuestions prices w elected)
+      (formed, (le-leb (pendingIn w) (length elected) h, (rw (le-leb 1 (length prices) k, le-leb (length prices) mostPrices l), tt)))
 
 -- Demand 3. For every well-formed store, every run of 1 to 4,096 prices that never falls or never rises, prev or none, collar or none, any
 -- namespace, kill switch on or off, and any lent lists as long as the calls demand: neither call is refused; both answer the same number
@@ -103,13 +93,13 @@ ends-decide s prev d first rest w segmentList walkList moved formed run few h k 
     let o : Evaluated = segment (s .kill) prints (bookOf w) in
     let r : Evaluated = walk (s .kill) prev (first ∷ rest) (bookOf w) in
     let a : Agree o r = segment-walk (s .kill) prev d first rest (bookOf w) (trails-of-sound (bookOf w .next) (bookOf w .tick) (bookOf w .slots) (wellFormed-valid w formed .sound)) run in
-    rw (segment-accepted s w formed prints segmentList moved h k, walk-accepted s w formed (first ∷ rest) walkList l (omega arith) few)
+    rw (segment-accepted w formed segmentList moved h k, walk-accepted w formed (first ∷ rest) walkList l (omega arith) few)
     (record {
       elected = length (o .fills);
-      moves = length (o .moved);
-      steps = length (r .moved);
+      moves = countsOf o .moves;
+      steps = countsOf r .moves;
       ends-answer = refl;
-      run-answer = ap (λ (k : ℕ). accepted (record { moves = length (r .moved); elected = k })) (sym (agree-length s o r a));
+      run-answer = ap (λ (k : ℕ). accepted (record { moves = countsOf r .moves; elected = k })) (sym (agree-length s o r a));
       alike = agree-entries s o r a segmentList walkList;
       stores = ap (λ (b : Book). storedBook b w) (a .books);
     })

@@ -1,5 +1,5 @@
 -- What the elected of a segment execute: they add at most a segment each, of the script's words, and use no more entries than there are.
-use Prim.Native.Nat.{ℕ, zero, suc, _≤_, _-_, _*_}
+use Prim.Native.Nat.{ℕ, suc, _≤_, _-_, _*_}
 use mathlib.Core.Path.{_≡_, refl}
 use mathlib.Core.Bool.{true, _&&_, _||_, false≢true}
 use mathlib.Core.List.{List, [], _∷_}
@@ -9,22 +9,11 @@ use borrow.Table.Steps.{cases}
 use lib.Dec.{leb, eqb}
 use lib.ListN.{length, getD, drop, length-append, length-drop}
 use Rattle.pricelevel.proofs.Bools.{and-parts}
-use Rattle.book.proofs.Evaluating.{PriceFits}
-use Rattle.book.proofs.Lists.{All, all-append, all-getD}
+use Rattle.book.proofs.Evaluating.{SegmentFits}
+use Rattle.book.proofs.Lists.{All, all-append, all-getD, all-drop}
 use Rattle.book.proofs.WellFormed.{IsWord}
 use Rattle.book.specs.Script.{scriptEntryLength, scriptFormed, scriptSegment, executeOne, executed}
 use Rattle.book.specs.declared.Elected.{Elected}
-use Rattle.book.specs.declared.PrintSegment.{PrintSegment}
-
-pub all-drop : {A : Type 0} (P : A → Type 0) (n : ℕ) (l : List A) → All P l → All P (drop n l)
-all-drop P zero l h = h
-all-drop P (suc n) [] h = h
-all-drop P (suc n) (x ∷ l) h = all-drop P n l (h .1)
-
--- the prices of a segment at which points stand are below 2^64
-pub record SegmentFits (s : PrintSegment) : Type 0 where
-  pub first : PriceFits (s .first)
-  pub last : PriceFits (s .last)
 
 module _ (script : List ℕ) (e : Elected) where
   -- it adds at most one segment, of the script's words

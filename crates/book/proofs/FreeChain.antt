@@ -9,7 +9,7 @@ use lib.Dec.{ltb}
 use lib.ListN.{length, getD}
 use Rattle.book.proofs.Lists.{All, all-map}
 use Rattle.book.proofs.Validity.{Valid}
-use Rattle.book.specs.Book.{Slot, vacant, held, Book}
+use Rattle.book.specs.Book.{Slot, vacant, held, Book, pendingCount}
 use Rattle.book.specs.Words.{vacantIndices, insertRising, sortRising}
 
 -- no two elements are equal
@@ -101,11 +101,12 @@ vacantIndices-distinct i (vacant ∷ ss) = (
 )
 vacantIndices-distinct i (held t ∷ ss) = vacantIndices-distinct (suc i) ss
 
-pub vacantIndices-length : (i : ℕ) (ss : List Slot) → length (vacantIndices i ss) ≤ length ss
-unfolding vacantIndices
-vacantIndices-length i [] = omega arith
-vacantIndices-length i (vacant ∷ ss) = omega (arith, vacantIndices-length (suc i) ss)
-vacantIndices-length i (held t ∷ ss) = omega (arith, vacantIndices-length (suc i) ss)
+-- each record is pending or vacant
+pub pendingCount-vacant : (i : ℕ) (ss : List Slot) → pendingCount ss + length (vacantIndices i ss) ≡ length ss
+unfolding pendingCount vacantIndices
+pendingCount-vacant i [] = refl
+pendingCount-vacant i (vacant ∷ ss) = omega (arith, pendingCount-vacant (suc i) ss)
+pendingCount-vacant i (held t ∷ ss) = omega (arith, pendingCount-vacant (suc i) ss)
 
 ------------------------------------------------------------------------
 -- The free chain
@@ -117,5 +118,5 @@ module _ (b : Book) (v : Valid b) where
   pub free-distinct : Distinct (b .free)
   free-distinct = sortRising-distinct (b .free) (rw (v .free-vacant) (vacantIndices-distinct 1 (b .slots)))
 
-  pub free-length : length (b .free) ≤ length (b .slots)
-  free-length = omega (arith, sortRising-length (b .free), ap length (v .free-vacant), vacantIndices-length 1 (b .slots))
+  pub free-count : pendingCount (b .slots) + length (b .free) ≡ length (b .slots)
+  free-count = omega (arith, pendingCount-vacant 1 (b .slots), sortRising-length (b .free), ap length (v .free-vacant))

@@ -1,6 +1,6 @@
 -- The free chain after a point holds exactly the records that are then vacant: in whatever order records are freed, their indices in rising
 -- order are the same.
-use Prim.Native.Nat.{ℕ, suc, _<_}
+use Prim.Native.Nat.{ℕ, suc, _+_, _<_}
 use mathlib.Core.Path.{_≡_, refl, sym, ap, _∙_}
 use mathlib.Core.Bool.{Bool, true, false}
 use mathlib.Core.List.{List, [], _∷_, _++_, map}
@@ -8,9 +8,12 @@ use native.Mathlib.Omega.{arith}
 use borrow.Author.Tests.{ltb-true, ltb-false, lt-ltb, le-ltb}
 use borrow.Table.Steps.{cases}
 use lib.Dec.{ltb}
+use lib.ListN.{length}
 use Rattle.pricelevel.specs.declared.Price.{Price}
 use Rattle.pricelevel.specs.declared.Side.{Side}
 use Rattle.pricelevel.specs.declared.Side.the-variants.{Buy, Sell}
+use Rattle.book.proofs.FreeChain.{insertRising-length}
+use Rattle.book.proofs.Rising.{vacantIndices-first}
 use Rattle.book.specs.Book.{Slot, vacant, held, Book, Chain, Pending, sideOf, before, insert, sort, withIndex, gather, ofSide}
 use Rattle.book.specs.Evaluation.{trailed, leaves, vacatedIf, settled, leavingOn, leaver, electedOn, electedBy, freed}
 use Rattle.book.specs.Words.{vacantIndices, insertRising, sortRising}
@@ -40,6 +43,11 @@ pub insertIndices-insertRising : (i : ℕ) (ps : List Pending) (l : List ℕ) �
 unfolding insertIndices
 insertIndices-insertRising i [] l = refl
 insertIndices-insertRising i (p ∷ ps) l = rw (insertIndices-insertRising i ps l) (insertRising-comm (p .index) i (insertIndices ps l))
+
+pub insertIndices-length : (ps : List Pending) (l : List ℕ) → length (insertIndices ps l) ≡ length ps + length l
+unfolding insertIndices
+insertIndices-length [] l = omega arith
+insertIndices-length (p ∷ ps) l = omega (arith, insertRising-length (p .index) (insertIndices ps l), insertIndices-length ps l)
 
 pub insertIndices-comm : (ps qs : List Pending) (l : List ℕ) → insertIndices ps (insertIndices qs l) ≡ insertIndices qs (insertIndices ps l)
 unfolding insertIndices
@@ -71,12 +79,6 @@ sortRising-freed (p ∷ ps) free = sortRising-freed ps (p .index ∷ free) ∙ i
 ------------------------------------------------------------------------
 -- The vacant records
 
-pub vacantIndices-first : (i j : ℕ) (ss : List Slot) → i < j → insertRising i (vacantIndices j ss) ≡ i ∷ vacantIndices j ss
-unfolding insertRising vacantIndices
-vacantIndices-first i j [] h = refl
-vacantIndices-first i j (vacant ∷ ss) h = rw (lt-ltb i j h)
-vacantIndices-first i j (held t ∷ ss) h = vacantIndices-first i (suc j) ss (omega arith)
-
 -- a stop is of one side
 pub insertIndices-ofSide : (i : ℕ) (side : Side) (t : StopEntry) (ps qs : List Pending) (l : List ℕ)
     → insertIndices (withIndex i (ofSide Sell side t) ps) (insertIndices (withIndex i (ofSide Buy side t) qs) l) ≡ insertRising i (insertIndices ps (insertIndices qs l))
@@ -93,18 +95,18 @@ vacantIndices-settled kill price i (vacant ∷ ss) =
     let ps = gather (leaver kill price Sell) (suc i) ss in
     let qs = gather (leaver kill price Buy) (suc i) ss in
     rw (
-      ← vacantIndices-first i (suc i) ss (omega arith),
+      ← vacantIndices-first i ss,
       insertIndices-insertRising i qs (vacantIndices (suc i) ss),
       insertIndices-insertRising i ps (insertIndices qs (vacantIndices (suc i) ss)),
       vacantIndices-settled kill price (suc i) ss,
-    ) (vacantIndices-first i (suc i) (map (settled kill price) ss) (omega arith))
+    ) (vacantIndices-first i (map (settled kill price) ss))
 vacantIndices-settled kill price i (held t ∷ ss) =
     let ih = vacantIndices-settled kill price (suc i) ss in
     let u : StopEntry = trailed price t in
     let ps = gather (leaver kill price Sell) (suc i) ss in
     let qs = gather (leaver kill price Buy) (suc i) ss in
     cases (leaves kill price u)
-    (λ e. rw (e, insertIndices-ofSide i (sideOf u) u ps qs (vacantIndices (suc i) ss), ih) (vacantIndices-first i (suc i) (map (settled kill price) ss) (omega arith)))
+    (λ e. rw (e, insertIndices-ofSide i (sideOf u) u ps qs (vacantIndices (suc i) ss), ih) (vacantIndices-first i (map (settled kill price) ss)))
     (λ e. rw e ih)
 
 pub electedBy-indices : (kill sellsFirst : Bool) (price : Price) (b : Book) (l : List ℕ)

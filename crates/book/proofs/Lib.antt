@@ -2,10 +2,10 @@ pub mod Accepted
 pub mod Agreement
 pub mod ChainIndices
 pub mod Changing
-pub mod Consistency
 pub mod Counting
 pub mod Differing
 pub mod EndsDecide
+pub mod Evaluated
 pub mod Evaluating
 pub mod Examples
 pub mod Executing

@@ -1,11 +1,11 @@
--- Laws of lists: tests on every element, and equality of lists of numbers.
+-- Laws of lists: what holds of every element, tests on every element, and equality of lists of numbers.
 use Prim.Native.Nat.{ℕ, zero, suc, _<_}
-use mathlib.Core.Path.{_≡_, refl, sym, ap, ap₂, _∙_}
-use mathlib.Core.Bool.{Bool, true, false, _&&_, false≢true}
-use mathlib.Core.List.{List, [], _∷_, _++_}
+use mathlib.Core.Path.{_≡_, refl, ap₂}
+use mathlib.Core.Bool.{Bool, true, false, false≢true}
+use mathlib.Core.List.{List, [], _∷_, _++_, map}
 use native.Mathlib.Omega.{arith}
 use lib.Dec.{eqb}
-use lib.ListN.{length, getD, set, replicate}
+use lib.ListN.{length, getD, set, drop, replicate}
 use borrow.Author.Tests.{eqb-true, eq-eqb}
 use Rattle.pricelevel.proofs.Bools.{and-parts}
 use Rattle.book.specs.Lists.{every, sameList}
@@ -79,3 +79,16 @@ getD-all P (x ∷ l) d f = (f 0 (omega arith), getD-all P l d (λ i h. f (suc i)
 pub all-replicate : {A : Type 0} (P : A → Type 0) (n : ℕ) (a : A) → P a → All P (replicate n a)
 all-replicate P zero a p = tt
 all-replicate P (suc n) a p = (p, all-replicate P n a p)
+
+pub all-drop : {A : Type 0} (P : A → Type 0) (n : ℕ) (l : List A) → All P l → All P (drop n l)
+all-drop P zero l h = h
+all-drop P (suc n) [] h = h
+all-drop P (suc n) (x ∷ l) h = all-drop P n l (h .1)
+
+pub all-mapped : {A B : Type 0} (P : A → Type 0) (Q : B → Type 0) (f : A → B) → ((x : A) → P x → Q (f x)) → (l : List A) → All P l → All Q (map f l)
+all-mapped P Q f g [] h = tt
+all-mapped P Q f g (x ∷ l) h = (g x (h .0), all-mapped P Q f g l (h .1))
+
+pub map-agree : {A B : Type 0} (f g : A → B) (l : List A) → All (λ x. f x ≡ g x) l → map f l ≡ map g l
+map-agree f g [] h = refl
+map-agree f g (x ∷ l) h = rw (h .0, map-agree f g l (h .1))

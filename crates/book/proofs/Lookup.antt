@@ -12,16 +12,25 @@ use Rattle.pricelevel.specs.Identity.{sameId}
 use Rattle.pricelevel.specs.declared.Id.{Id}
 use Rattle.pricelevel.specs.declared.Side.{Side}
 use Rattle.pricelevel.specs.declared.Side.the-variants.{Buy, Sell}
-use Rattle.book.proofs.ChainIndices.{sort-all}
 use Rattle.book.proofs.Lists.{All, all-map, all-append, all-append-parts, getD-all}
 use Rattle.book.specs.Book.{Slot, vacant, held, Book, Chain, ByStop, chainSide, before, Pending, sideOf, withIndex, gather, insert, sort, ofSide, pendingOn, chain}
 use Rattle.book.specs.Store.{named, lookup, isSome, isPending}
 use Rattle.book.specs.declared.StopEntry.{StopEntry}
 
 ------------------------------------------------------------------------
--- What holds along a chain holds of every pending stop
+-- What holds of every pending stop holds along a chain, and the other way round
 
 module _ (P : Pending → Type 0) (c : Chain) where
+  pub insert-all : (x : Pending) (l : List Pending) → P x → All P l → All P (insert c x l)
+  unfolding insert
+  insert-all x [] p h = (p, h)
+  insert-all x (y ∷ l) p h = cases (before c (x .entry) (y .entry)) (λ e. rw e (p, h)) (λ e. rw e (h .0, insert-all x l p (h .1)))
+
+  pub sort-all : (l : List Pending) → All P l → All P (sort c l)
+  unfolding sort
+  sort-all [] h = h
+  sort-all (x ∷ l) h = insert-all x (sort c l) (h .0) (sort-all l (h .1))
+
   pub insert-all-parts : (x : Pending) (l : List Pending) → All P (insert c x l) → P x × All P l
   unfolding insert
   insert-all-parts x [] h = h

@@ -12,11 +12,11 @@ use Rattle.pricelevel.specs.declared.Id.{Id}
 use Rattle.pricelevel.specs.declared.Quantity.{Quantity}
 use Rattle.stop_terms.specs.declared.StopTerms.{StopTerms}
 use Rattle.book.proofs.Differing.{SlotsDiffer, slotsDiffer-vacant, allDiffer-set, new-slotsDiffer}
-use Rattle.book.proofs.FreeChain.{sortRising-length}
+use Rattle.book.proofs.FreeChain.{pendingCount-vacant}
 use Rattle.book.proofs.Lists.{All, all-map, all-of, all-map-both, all-set, all-replicate}
 use Rattle.book.proofs.Lookup.{InBook, lookup-none, isPending-none}
 use Rattle.book.proofs.Questions.{firstNo-none}
-use Rattle.book.proofs.Rising.{Taken, vacantIndices-rising, vacantIndices-empty, vacantIndices-vacated, vacantIndices-taken, pendingCount-vacant, pendingCount-set}
+use Rattle.book.proofs.Rising.{Taken, vacantIndices-rising, vacantIndices-empty, vacantIndices-vacated, vacantIndices-taken, pendingCount-set}
 use Rattle.book.proofs.Soundness.{sound-of, sound-later, consistent-of}
 use Rattle.book.proofs.Validity.{Valid, StopFits, SlotFits, Fits}
 use Rattle.book.specs.Book.{Slot, vacant, held, Book, Pending, seqOf, pendingCount}
@@ -46,10 +46,6 @@ withSlot-valid b next k s free v later sound apart indices = record {
 
 pub withSlot-fits : (b : Book) (next k : ℕ) (s : Slot) (free : List ℕ) → Fits b → next < 2 ^ 64 → SlotFits s → Fits (withSlot b next k s free)
 withSlot-fits b next k s free f h fits = record { next = h; tick = f .tick; slots = all-set SlotFits (b .slots) k s fits (f .slots) }
-
-pub free-count : (b : Book) → Valid b → pendingCount (b .slots) + length (b .free) ≡ length (b .slots)
-free-count b v =
-    omega (arith, pendingCount-vacant 1 (b .slots), sortRising-length (b .free), ap length (v .free-vacant))
 
 ------------------------------------------------------------------------
 -- The empty book
@@ -144,7 +140,7 @@ admission-admissible kill trade id terms quantity w e =
         terms = consistent-of (newEntry id terms quantity (bookOf w)) (leb-true _ _ (q .1 .1 .1 .0)) (q .1 .1 .1 .1 .0);
         on-tick = store .1 .0;
         absent = isPending-none id (bookOf w) (not-true _ (store .0));
-        room = ltb-true _ _ (store .1 .1 .0);
+        room = omega (arith, ltb-true, store .1 .1 .0);
       },
       omega (arith, ltb-true (bookOf w .next) (2 ^ 64 - 1) (store .1 .1 .1 .0)),
     )

@@ -15,6 +15,7 @@ use Rattle.pricelevel.specs.declared.Side.the-variants.{Buy, Sell}
 use Rattle.stop_terms.specs.Terms.{behind}
 use Rattle.stop_terms.proofs.Terms.{tests, behind-past, behind-asym}
 use Rattle.book.proofs.Lists.{All}
+use Rattle.book.proofs.Lookup.{insert-all}
 use Rattle.book.specs.Book.{Slot, Chain, ByStop, stopOf, seqOf, lexicographic, before, Pending, withIndex, gather, insert, sort, ofSide}
 use Rattle.book.specs.declared.StopEntry.{StopEntry}
 
@@ -37,11 +38,6 @@ pub record Parted (Early Late : StopEntry → Type 0) (a b whole : List Pending)
   pub front : AllStops Early a
   pub back : AllStops Late b
 
-pub insert-all : (c : Chain) (P : StopEntry → Type 0) (x : Pending) (l : List Pending) → P (x .entry) → AllStops P l → AllStops P (insert c x l)
-unfolding insert
-insert-all c P x [] h k = (h, tt)
-insert-all c P x (y ∷ l) h k = cases (before c (x .entry) (y .entry)) (λ e. rw e (h, k)) (λ e. rw e (k .0, insert-all c P x l h (k .1)))
-
 module _ (c : Chain) (Early Late : StopEntry → Type 0) (w : Apart c Early Late) where
   insert-front : (x : Pending) (a b : List Pending) → Early (x .entry) → AllStops Late b → insert c x (a ++ b) ≡ insert c x a ++ b
   unfolding insert
@@ -62,7 +58,7 @@ module _ (c : Chain) (Early Late : StopEntry → Type 0) (w : Apart c Early Late
       let p : Pending = record { index = i; entry = x } in
       record {
         joined = rw (v .joined) (insert-front p (sort c a) (sort c b) h (v .back));
-        front = insert-all c Early p (sort c a) h (v .front);
+        front = insert-all (λ q. Early (q .entry)) c p (sort c a) h (v .front);
         back = v .back;
       }
   parted-withIndex i a b l (late x h) v =
@@ -70,7 +66,7 @@ module _ (c : Chain) (Early Late : StopEntry → Type 0) (w : Apart c Early Late
       record {
         joined = rw (v .joined) (insert-back p (sort c a) (sort c b) h (v .front));
         front = v .front;
-        back = insert-all c Late p (sort c b) h (v .back);
+        back = insert-all (λ q. Late (q .entry)) c p (sort c b) h (v .back);
       }
   parted-withIndex i a b l never v = v
 

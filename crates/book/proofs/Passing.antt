@@ -5,9 +5,9 @@ use mathlib.Core.List.{List, [], _∷_, _++_}
 use native.Mathlib.Nat.{suc-mul}
 use native.Mathlib.Omega.{arith}
 use lib.ListN.{length, drop, length-append, length-map}
-use Rattle.book.proofs.Evaluating.{Kept, kept-trans, segment-valid, segment-fits, segment-kept, segment-count, segment-moves}
-use Rattle.book.proofs.Executing.{all-drop, SegmentFits, executed-segments, executed-fits, executed-used, script-left}
-use Rattle.book.proofs.Lists.{All, all-append}
+use Rattle.book.proofs.Evaluating.{Kept, kept-trans, segment-points, points-valid, points-fits, points-kept, points-count, SegmentFits, segmentPrices-fits, segment-moves}
+use Rattle.book.proofs.Executing.{executed-segments, executed-fits, executed-used, script-left}
+use Rattle.book.proofs.Lists.{All, all-append, all-drop}
 use Rattle.book.proofs.Validity.{Valid, Fits}
 use Rattle.book.proofs.WellFormed.{IsWord}
 use Rattle.book.specs.Book.{Book, pendingCount}
@@ -88,24 +88,24 @@ module _ (s : Settings) where
 
   pub passFrom-valid : (k : ℕ) (script : List ℕ) (queue : List PrintSegment) (b : Book) → Valid b → Valid (passFrom k s script queue b .book)
   passFrom-valid = passFrom-induction (λ k script queue b o. Valid b → Valid (o .book)) (λ k script queue b h. h)
-      (λ k script prints queue b rest ih h. ih (segment-valid (s .kill) prints b h))
+      (λ k script prints queue b rest ih h. ih (points-valid (s .kill) (segment-points (s .kill) prints b) h))
 
   pub passFrom-fits : (k : ℕ) (script : List ℕ) (queue : List PrintSegment) (b : Book) → All IsWord script → All SegmentFits queue → Fits b
       → Fits (passFrom k s script queue b .book)
   passFrom-fits = passFrom-induction (λ k script queue b o. All IsWord script → All SegmentFits queue → Fits b → Fits (o .book)) (λ k script queue b w q h. h)
       (λ k script prints queue b rest ih w q h. ih (all-drop IsWord (scriptEntryLength * (executedIn s script prints b .used)) script w)
       (all-append SegmentFits queue (executedIn s script prints b .segments) (q .1) (executed-fits script (electedEntries s (evaluatedIn s prints b)) w))
-      (segment-fits (s .kill) prints b (q .0 .first) (q .0 .last) h))
+      (points-fits (s .kill) (segment-points (s .kill) prints b) (segmentPrices-fits prints (q .0)) h))
 
   pub passFrom-kept : (k : ℕ) (script : List ℕ) (queue : List PrintSegment) (b : Book) → Kept b (passFrom k s script queue b .book)
   passFrom-kept = passFrom-induction (λ k script queue b o. Kept b (o .book)) (λ k script queue b. record { records = refl; next = refl; tick = refl })
-      (λ k script prints queue b rest ih. kept-trans b (evaluatedIn s prints b .book) (rest .book) (segment-kept (s .kill) prints b) ih)
+      (λ k script prints queue b rest ih. kept-trans b (evaluatedIn s prints b .book) (rest .book) (points-kept (s .kill) (segment-points (s .kill) prints b)) ih)
 
   pub passFrom-count : (k : ℕ) (script : List ℕ) (queue : List PrintSegment) (b : Book)
       → pendingCount (b .slots) ≡ pendingCount (passFrom k s script queue b .book .slots) + length (passFrom k s script queue b .entries)
   passFrom-count = passFrom-induction (λ k script queue b o. pendingCount (b .slots) ≡ pendingCount (o .book .slots) + length (o .entries))
       (λ k script queue b. omega arith)
-      (λ k script prints queue b rest ih. rw length-append (omega (arith, ih, entries-length prints b, segment-count (s .kill) prints b)))
+      (λ k script prints queue b rest ih. rw length-append (omega (arith, ih, entries-length prints b, points-count (s .kill) (segment-points (s .kill) prints b))))
 
   -- of a script of n entries it uses at most n
   pub passFrom-used : (k : ℕ) (script : List ℕ) (queue : List PrintSegment) (b : Book) (n : ℕ) → length script ≡ scriptEntryLength * n
@@ -120,7 +120,7 @@ module _ (s : Settings) where
       → passFrom k s script queue b .moves ≤ k * (2 * most)
   passFrom-moves most = passFrom-induction (λ k script queue b o. pendingCount (b .slots) ≤ most → o .moves ≤ k * (2 * most)) (λ k script queue b h. omega arith)
       (λ k script prints queue b rest ih h.
-      rw suc-mul (omega (arith, ih (omega (arith, segment-count (s .kill) prints b)), segment-moves (s .kill) prints b)))
+      rw suc-mul (omega (arith, ih (omega (arith, points-count (s .kill) (segment-points (s .kill) prints b))), segment-moves (s .kill) prints b)))
 
   -- each elected stop adds at most one segment, so that fuel for the queue and the pending stops is enough
   pub passFrom-fuel : (j k : ℕ) (script : List ℕ) (queue : List PrintSegment) (b : Book)
@@ -133,7 +133,7 @@ module _ (s : Settings) where
       let o : Evaluated = evaluatedIn s prints b in
       let added : List PrintSegment = executedIn s script prints b .segments in
       let left : length (queue ++ added) + pendingCount (o .book .slots) ≤ length queue + pendingCount (b .slots) =
-      rw length-append (omega (arith, executed-segments script (electedEntries s o), entries-length prints b, segment-count (s .kill) prints b)) in
+      rw length-append (omega (arith, executed-segments script (electedEntries s o), entries-length prints b, points-count (s .kill) (segment-points (s .kill) prints b))) in
       let ih = passFrom-fuel j k (scriptAfter s script prints b) (queue ++ added) (o .book) (omega arith) (omega arith) in
       zero-or-more (pendingCount (b .slots))
       (λ e. rw (passFrom-empty (suc j) script (prints ∷ queue) b e, passFrom-empty (suc k) script (prints ∷ queue) b e))

@@ -12,7 +12,7 @@ use Rattle.pricelevel.specs.declared.Side.{Side}
 use Rattle.pricelevel.specs.declared.Side.the-variants.{Buy, Sell}
 use Rattle.stop_terms.specs.Terms.{behind}
 use Rattle.stop_terms.proofs.Terms.{behind-irrefl, past-trans}
-use Rattle.book.proofs.Lists.{All, all-map}
+use Rattle.book.proofs.Lists.{All, all-map, all-mapped, map-agree}
 use Rattle.book.proofs.Parting.{Part, never, parted, Met, Unmet, stops-apart, part-early, part-late}
 use Rattle.book.proofs.Stops.{Trails, trailed-still, trailed-keeps, trailed-again, leaves-not-behind, waits-behind, leaves-further, Settled, trailed-settled, trailed-stays}
 use Rattle.book.specs.Book.{Slot, vacant, held, Book, ByStop, sideOf, watermarkOf, Pending, withIndex, gather, sort, ofSide}
@@ -109,14 +109,6 @@ leaver-none kill o q d h (held t) w = elim (same-side-or-none d (sideOf (trailed
 ------------------------------------------------------------------------
 -- Over the records
 
-pub all-mapped : {A B : Type 0} (Q : B → Type 0) (f : A → B) (l : List A) → All (λ x. Q (f x)) l → All Q (map f l)
-all-mapped Q f [] h = tt
-all-mapped Q f (x ∷ l) h = (h .0, all-mapped Q f l (h .1))
-
-pub map-agree : {A B : Type 0} (f g : A → B) (l : List A) → All (λ x. f x ≡ g x) l → map f l ≡ map g l
-map-agree f g [] h = refl
-map-agree f g (x ∷ l) h = rw (h .0, map-agree f g l (h .1))
-
 pub gather-none : (choice : Slot → Option StopEntry) (i : ℕ) (ss : List Slot) → All (λ s. choice s ≡ none) ss → gather choice i ss ≡ []
 unfolding gather withIndex
 gather-none choice i [] h = refl
@@ -138,7 +130,7 @@ settled-trails kill p b w = all-map (slot-trails kill p) (b .slots) w
 
 pub point-settled : (kill first : Bool) (p : Price) (b : Book) → All Trails (b .slots) → BookSettled kill p (point kill first p b .book)
 unfolding point
-point-settled kill first p b h = all-mapped (SlotSettled kill p) (settled kill p) (b .slots) (all-map (slot-settled kill p) (b .slots) h)
+point-settled kill first p b h = all-mapped Trails (SlotSettled kill p) (settled kill p) (slot-settled kill p) (b .slots) h
 
 pub point-trails : (kill first : Bool) (p : Price) (b : Book) → All Trails (b .slots) → All Trails (point kill first p b .book .slots)
 point-trails kill first p b h = settled-trails kill p (point kill first p b .book) (point-settled kill first p b h)

@@ -5,24 +5,22 @@ use mathlib.Core.Logic.{_≢_}
 use mathlib.Core.Bool.{true}
 use mathlib.Core.List.{List, [], _∷_, _++_}
 use native.Mathlib.Omega.{arith}
-use borrow.Author.Tests.{leb-true, eq-eqb, ne-eqb}
-use lib.Dec.{leb, ltb}
+use borrow.Author.Tests.{eq-eqb, ne-eqb}
 use lib.ListN.{length, getD}
-use Rattle.pricelevel.proofs.Bools.{and-parts}
 use Rattle.pricelevel.specs.Identity.{kindNumber}
 use Rattle.pricelevel.specs.Side.{sideNumber}
 use Rattle.pricelevel.specs.declared.IdKind.{IdKind}
 use Rattle.pricelevel.specs.declared.IdKind.the-variants.{Uuid, Ulid, Sequential}
 use Rattle.pricelevel.specs.declared.Side.{Side}
 use Rattle.pricelevel.specs.declared.Side.the-variants.{Buy, Sell}
-use Rattle.book.proofs.FreeChain.{Distinct, VacantFrom, free-all-vacant, free-distinct, free-length}
+use Rattle.book.proofs.FreeChain.{Distinct, VacantFrom, free-all-vacant, free-distinct, free-count}
 use Rattle.book.proofs.Lists.{All, all-map, all-map-both, all-getD}
 use Rattle.book.proofs.Places.{layout-header, layout-record}
+use Rattle.book.proofs.Soundness.{sound-parts}
 use Rattle.book.proofs.Validity.{Valid}
-use Rattle.book.specs.Book.{Slot, vacant, held, Book, seqOf}
+use Rattle.book.specs.Book.{Slot, vacant, held, Book}
 use Rattle.book.specs.Lists.{headOr0}
 use Rattle.book.specs.Words.{headerLength, recordLength, nextIn, header, recordWords, layout, recordWord, kindOf, sideFrom, entryAt, slotAt, slotsAt, freeFrom, bookOf, soundStop}
-use Rattle.book.specs.declared.StopEntry.{StopEntry}
 
 ------------------------------------------------------------------------
 -- Numbers of kinds and sides
@@ -41,11 +39,6 @@ sideFrom-number Sell = refl
 ------------------------------------------------------------------------
 -- Records
 
-soundStop-quantity : (next tick : ℕ) (t : StopEntry) → soundStop next tick (held t) ≡ true → 1 ≤ t .quantity .0
-unfolding soundStop
-soundStop-quantity next tick t h =
-    leb-true 1 (t .quantity .0) (and-parts (leb 1 (t .quantity .0)) _ (and-parts (ltb (seqOf t) next) _ h .1) .0)
-
 -- the words of a slot read as that slot
 slotAt-words : (w : List ℕ) (b : Book) (i : ℕ) (s : Slot) → soundStop (b .next) (b .tick) s ≡ true
     → ((k : ℕ) → k < recordLength → recordWord w i k ≡ getD (recordWords b i s) k 0) → slotAt w i ≡ s
@@ -53,7 +46,7 @@ unfolding slotAt entryAt recordWords
 slotAt-words w b i vacant h words = rw (words 7 (omega arith))
 slotAt-words w b i (held t) h words =
     let q : recordWord w i 7 ≡ t .quantity .0 = words 7 (omega arith) in
-    let n : recordWord w i 7 ≢ 0 = omega (arith, soundStop-quantity (b .next) (b .tick) t h) in
+    let n : recordWord w i 7 ≢ 0 = omega (arith, sound-parts (b .next) (b .tick) t h .quantity) in
     rw (ne-eqb (recordWord w i 7) 0 n)
     (λ x. held (record {
       id = record { kind = (ap kindOf (words 0 (omega arith)) ∙ kindOf-number (t .id .kind)) x; high = words 1 (omega arith) x; low = words 2 (omega arith) x };
@@ -136,7 +129,7 @@ module _ (b : Book) (r : List ℕ) (v : Valid b) where
   freeFrom-layout =
       let links = all-map {Q = λ i. (1 ≤ i) × (recordWord (layout b ++ r) i 9 ≡ nextIn (b .free) i)} free-link (b .free) (free-all-vacant b v) in
       rw (header-word 0 (omega arith), header-word 8 (omega arith))
-      (freeFrom-chain (layout b ++ r) (length (b .slots)) (b .free) (free-length b v) (free-distinct b v) links)
+      (freeFrom-chain (layout b ++ r) (length (b .slots)) (b .free) (omega (arith, free-count b v)) (free-distinct b v) links)
 
   pub bookOf-layout : bookOf (layout b ++ r) ≡ b
   unfolding bookOf header

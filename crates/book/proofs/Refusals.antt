@@ -13,6 +13,7 @@ use Rattle.pricelevel.specs.declared.Price.{Price}
 use Rattle.pricelevel.specs.declared.Quantity.{Quantity}
 use Rattle.pricelevel.specs.declared.Seq.{Seq}
 use Rattle.stop_terms.specs.declared.StopTerms.{StopTerms}
+use Rattle.book.proofs.Questions.{decide-outcomes}
 use Rattle.book.specs.Book.{Pending}
 use Rattle.book.specs.Calls.{Settings, SegmentOutcome, WalkOutcome, PassOutcome, RunOutcome, pendingIn, segmentCall, walkCall, passed, passCall, runOver, runCall}
 use Rattle.book.specs.Questions.{decide}
@@ -35,15 +36,14 @@ accepted-refused v r = let e = r .1 in let z : _≡_ {A = ℕ} 0 1 = cc in omega
 
 -- an accepted outcome was not refused: so what is kept by every refusal is kept
 decide-refused : {A B : Type 0} (answer : A → Answer B) (Kept : A → Type 0) (x : Option ℕ) (refusal : ℕ → A) (acceptance : A)
-    → ((k : ℕ) → Kept (refusal k)) → (Refused (answer acceptance) → Kept acceptance) → Refused (answer (decide x refusal acceptance)) → Kept (decide x refusal acceptance)
-unfolding decide
-decide-refused answer Kept none refusal acceptance h g r = g r
-decide-refused answer Kept (some k) refusal acceptance h g r = h k
+    → Refused (answer (decide x refusal acceptance)) → ((k : ℕ) → Kept (refusal k)) → (Refused (answer acceptance) → Kept acceptance) → Kept (decide x refusal acceptance)
+decide-refused answer Kept x refusal acceptance r h g =
+    decide-outcomes (λ o. Refused (answer o) → Kept o) x refusal acceptance (λ k q. h k) (λ e. g) r
 
 pub layOut-refused : (n tick : ℕ) (w : List ℕ) → Refused (layOut n tick w .answer) → layOut n tick w .words ≡ w
 unfolding layOut
 layOut-refused n tick w r =
-    decide-refused (λ (o : StoreOutcome (Unit {0})). o .answer) (λ o. o .words ≡ w) _ _ _ (λ k. refl) (λ q. absurd (accepted-refused _ q)) r
+    decide-refused (λ (o : StoreOutcome (Unit {0})). o .answer) (λ o. o .words ≡ w) _ _ _ r (λ k. refl) (λ q. absurd (accepted-refused _ q))
 
 -- what a call on store and path leaves where it is refused
 abbrev LeftAs : {A : Type 0} → List ℕ → PrintPath → PathOutcome A → Type 0
@@ -52,13 +52,13 @@ LeftAs w path o = (o .words ≡ w) × (o .path ≡ path)
 pub clear-refused : (w : List ℕ) (path : PrintPath) → Refused (clear w path .answer) → LeftAs w path (clear w path)
 unfolding clear
 clear-refused w path r =
-    decide-refused (λ (o : PathOutcome (Unit {0})). o .answer) (λ o. LeftAs w path o) _ _ _ (λ k. (refl, refl)) (λ q. absurd (accepted-refused _ q)) r
+    decide-refused (λ (o : PathOutcome (Unit {0})). o .answer) (λ o. LeftAs w path o) _ _ _ r (λ k. (refl, refl)) (λ q. absurd (accepted-refused _ q))
 
 pub admit-refused : (kill : Bool) (trade : LastPrice) (id : Id) (terms : StopTerms) (quantity : Quantity) (w : List ℕ) (path : PrintPath)
     → Refused (admit kill trade id terms quantity w path .answer) → LeftAs w path (admit kill trade id terms quantity w path)
 unfolding admit
 admit-refused kill trade id terms quantity w path r =
-    decide-refused (λ (o : PathOutcome Seq). o .answer) (λ o. LeftAs w path o) _ _ _ (λ k. (refl, refl)) (λ q. absurd (accepted-refused _ q)) r
+    decide-refused (λ (o : PathOutcome Seq). o .answer) (λ o. LeftAs w path o) _ _ _ r (λ k. (refl, refl)) (λ q. absurd (accepted-refused _ q))
 
 cancelFound-refused : (x : Option Pending) (w : List ℕ) → Refused (cancelFound x w .answer) → cancelFound x w .words ≡ w
 unfolding cancelFound
@@ -68,7 +68,7 @@ cancelFound-refused (some p) w r = absurd (accepted-refused _ r)
 pub cancel-refused : (id : Id) (w : List ℕ) → Refused (cancel id w .answer) → cancel id w .words ≡ w
 unfolding cancel
 cancel-refused id w r =
-    decide-refused (λ (o : StoreOutcome StopEntry). o .answer) (λ o. o .words ≡ w) _ _ _ (λ k. refl) (cancelFound-refused (lookup id (bookOf w)) w) r
+    decide-refused (λ (o : StoreOutcome StopEntry). o .answer) (λ o. o .words ≡ w) _ _ _ r (λ k. refl) (cancelFound-refused (lookup id (bookOf w)) w)
 
 updateFound-refused : (change : OrderUpdate) (trade : LastPrice) (x : Option Pending) (w : List ℕ)
     → Refused (updateFound change trade x w .answer) → updateFound change trade x w .words ≡ w
@@ -76,34 +76,34 @@ unfolding updateFound changeFound
 updateFound-refused change trade none w r = refl
 updateFound-refused change trade (some p) w r = cases (cancels change)
     (λ e. rw e (cancelFound-refused (some p) w (rw e at r)))
-    (λ e. rw e (decide-refused (λ (o : StoreOutcome StopEntry). o .answer) (λ o. o .words ≡ w) _ _ _ (λ k. refl) (λ q. absurd (accepted-refused _ q)) (rw e at r)))
+    (λ e. rw e (decide-refused (λ (o : StoreOutcome StopEntry). o .answer) (λ o. o .words ≡ w) _ _ _ (rw e at r) (λ k. refl) (λ q. absurd (accepted-refused _ q))))
 
 pub update-refused : (change : OrderUpdate) (id : Id) (trade : LastPrice) (w : List ℕ) → Refused (update change id trade w .answer) → update change id trade w .words ≡ w
 unfolding update
 update-refused change id trade w r =
-    decide-refused (λ (o : StoreOutcome StopEntry). o .answer) (λ o. o .words ≡ w) _ _ _ (λ k. refl) (updateFound-refused change trade (lookup id (bookOf w)) w) r
+    decide-refused (λ (o : StoreOutcome StopEntry). o .answer) (λ o. o .words ≡ w) _ _ _ r (λ k. refl) (updateFound-refused change trade (lookup id (bookOf w)) w)
 
 module _ (s : Settings) (w : List ℕ) (elected : List Elected) where
   pub segmentCall-refused : (prints : PrintSegment) (moved : List Moved) → Refused (segmentCall s prints w elected moved .answer)
       → (segmentCall s prints w elected moved .words ≡ w) × (segmentCall s prints w elected moved .elected ≡ elected) × (segmentCall s prints w elected moved .moved ≡ moved)
   unfolding segmentCall
   segmentCall-refused prints moved r =
-      decide-refused (λ (o : SegmentOutcome). o .answer) (λ o. (o .words ≡ w) × (o .elected ≡ elected) × (o .moved ≡ moved)) _ _ _
-      (λ k. (refl, refl, refl)) (λ q. absurd (accepted-refused _ q)) r
+      decide-refused (λ (o : SegmentOutcome). o .answer) (λ o. (o .words ≡ w) × (o .elected ≡ elected) × (o .moved ≡ moved)) _ _ _ r
+      (λ k. (refl, refl, refl)) (λ q. absurd (accepted-refused _ q))
 
   pub walkCall-refused : (prev : LastPrice) (prices : List Price) → Refused (walkCall s prev prices w elected .answer)
       → (walkCall s prev prices w elected .words ≡ w) × (walkCall s prev prices w elected .elected ≡ elected)
   unfolding walkCall
   walkCall-refused prev prices r =
-      decide-refused (λ (o : WalkOutcome). o .answer) (λ o. (o .words ≡ w) × (o .elected ≡ elected)) _ _ _
-      (λ k. (refl, refl)) (λ q. absurd (accepted-refused _ q)) r
+      decide-refused (λ (o : WalkOutcome). o .answer) (λ o. (o .words ≡ w) × (o .elected ≡ elected)) _ _ _ r
+      (λ k. (refl, refl)) (λ q. absurd (accepted-refused _ q))
 
   pub passCall-refused : (script : List ℕ) (prints : PrintSegment) → Refused (passCall s script prints w elected .answer)
       → (passCall s script prints w elected .words ≡ w) × (passCall s script prints w elected .elected ≡ elected)
   unfolding passCall passed
   passCall-refused script prints r =
-      decide-refused (λ (o : PassOutcome). o .answer) (λ o. (o .words ≡ w) × (o .elected ≡ elected)) _ _ _
-      (λ k. (refl, refl)) (λ q. absurd (accepted-refused _ q)) r
+      decide-refused (λ (o : PassOutcome). o .answer) (λ o. (o .words ≡ w) × (o .elected ≡ elected)) _ _ _ r
+      (λ k. (refl, refl)) (λ q. absurd (accepted-refused _ q))
 
   -- what the run over path and store leaves where it is refused, and where nothing is pending or the path is closed
   abbrev RunLeft : PrintPath → RunOutcome → Type 0
@@ -113,5 +113,5 @@ module _ (s : Settings) (w : List ℕ) (elected : List Elected) where
       → RunLeft path (runCall s script trade w elected path)
   unfolding runCall runOver passed
   runCall-refused script trade path r =
-      decide-refused (λ (o : RunOutcome). o .answer) (λ o. RunLeft path o) _ _ _ (λ k. (refl, refl, refl))
-      (λ q. cases (eqb (pendingIn w) 0 || not (path .«open»)) (λ e. rw e (refl, refl, refl)) (λ e. absurd (accepted-refused _ (rw e at q)))) r
+      decide-refused (λ (o : RunOutcome). o .answer) (λ o. RunLeft path o) _ _ _ r (λ k. (refl, refl, refl))
+      (λ q. cases (eqb (pendingIn w) 0 || not (path .«open»)) (λ e. rw e (refl, refl, refl)) (λ e. absurd (accepted-refused _ (rw e at q))))

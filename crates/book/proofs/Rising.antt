@@ -8,8 +8,7 @@ use borrow.Author.Tests.{lt-ltb, le-ltb}
 use borrow.Table.Steps.{cases}
 use lib.Dec.{ltb}
 use lib.ListN.{length, getD, set, replicate}
-use Rattle.book.proofs.FreeChain.{VacantFrom, insertRising-length, vacantIndices-vacant}
-use Rattle.book.proofs.Lists.{All, all-map}
+use Rattle.book.proofs.FreeChain.{insertRising-length}
 use Rattle.book.specs.Book.{Slot, vacant, held, pendingCount}
 use Rattle.book.specs.Lists.{rising}
 use Rattle.book.specs.Words.{vacantIndices, insertRising, sortRising}
@@ -18,12 +17,6 @@ use Rattle.book.specs.declared.StopEntry.{StopEntry}
 ------------------------------------------------------------------------
 -- Insertion
 
--- a number below all others comes first
-pub insertRising-first : (i : ℕ) (l : List ℕ) → All (λ j. i < j) l → insertRising i l ≡ i ∷ l
-unfolding insertRising
-insertRising-first i [] h = refl
-insertRising-first i (j ∷ l) h = rw (lt-ltb i j (h .0))
-
 pub insertRising-later : (i j : ℕ) (l : List ℕ) → j ≤ i → insertRising i (j ∷ l) ≡ j ∷ insertRising i l
 unfolding insertRising
 insertRising-later i j l h = rw (le-ltb i j h)
@@ -31,14 +24,20 @@ insertRising-later i j l h = rw (le-ltb i j h)
 ------------------------------------------------------------------------
 -- The vacant records, from index j on
 
-vacantIndices-later : (j : ℕ) (ss : List Slot) → All (λ x. j < x) (vacantIndices (suc j) ss)
-vacantIndices-later j ss =
-    all-map {P = VacantFrom (suc j) ss} {Q = λ x. j < x} (λ x h. h .low) (vacantIndices (suc j) ss) (vacantIndices-vacant (suc j) ss)
+-- an index below theirs comes first
+vacantIndices-below : (i j : ℕ) (ss : List Slot) → i < j → insertRising i (vacantIndices j ss) ≡ i ∷ vacantIndices j ss
+unfolding insertRising vacantIndices
+vacantIndices-below i j [] h = refl
+vacantIndices-below i j (vacant ∷ ss) h = rw (lt-ltb i j h)
+vacantIndices-below i j (held t ∷ ss) h = vacantIndices-below i (suc j) ss (omega arith)
+
+pub vacantIndices-first : (j : ℕ) (ss : List Slot) → insertRising j (vacantIndices (suc j) ss) ≡ j ∷ vacantIndices (suc j) ss
+vacantIndices-first j ss = vacantIndices-below j (suc j) ss (omega arith)
 
 pub vacantIndices-rising : (j : ℕ) (ss : List Slot) → sortRising (vacantIndices j ss) ≡ vacantIndices j ss
 unfolding vacantIndices sortRising
 vacantIndices-rising j [] = refl
-vacantIndices-rising j (vacant ∷ ss) = rw (vacantIndices-rising (suc j) ss) (insertRising-first j (vacantIndices (suc j) ss) (vacantIndices-later j ss))
+vacantIndices-rising j (vacant ∷ ss) = rw (vacantIndices-rising (suc j) ss) (vacantIndices-first j ss)
 vacantIndices-rising j (held t ∷ ss) = vacantIndices-rising (suc j) ss
 
 pub vacantIndices-empty : (j n : ℕ) → vacantIndices j (replicate n vacant) ≡ rising j n
@@ -62,7 +61,7 @@ pub vacantIndices-vacated : (j : ℕ) (ss : List Slot) (k : ℕ) (t : StopEntry)
 unfolding vacantIndices
 vacantIndices-vacated j [] k t e = let z : _≡_ {A = ℕ} 0 1 = cc in absurd (omega arith)
 vacantIndices-vacated j (vacant ∷ ss) zero t e = let z : _≡_ {A = ℕ} 0 1 = cc in absurd (omega arith)
-vacantIndices-vacated j (held s ∷ ss) zero t e = rw add-zero (insertRising-first j (vacantIndices (suc j) ss) (vacantIndices-later j ss))
+vacantIndices-vacated j (held s ∷ ss) zero t e = rw add-zero (vacantIndices-first j ss)
 vacantIndices-vacated j (vacant ∷ ss) (suc k) t e =
     let h : j ≤ j + suc k = omega arith in
     rw (insertRising-later (j + suc k) j, add-suc j k, ← suc-add j k, vacantIndices-vacated (suc j) ss k t e)
@@ -105,12 +104,6 @@ vacantIndices-taken x j l (held u ∷ ss) t e =
 
 ------------------------------------------------------------------------
 -- The number of pending records
-
-pub pendingCount-vacant : (j : ℕ) (ss : List Slot) → pendingCount ss + length (vacantIndices j ss) ≡ length ss
-unfolding pendingCount vacantIndices
-pendingCount-vacant j [] = refl
-pendingCount-vacant j (vacant ∷ ss) = omega (arith, pendingCount-vacant (suc j) ss)
-pendingCount-vacant j (held t ∷ ss) = omega (arith, pendingCount-vacant (suc j) ss)
 
 -- what one record counts is taken away, what it becomes is added
 pub pendingCount-set : (ss : List Slot) (k : ℕ) (s : Slot) → k < length ss

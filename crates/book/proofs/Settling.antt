@@ -4,6 +4,7 @@ use mathlib.Core.Path.{_≡_, refl}
 use mathlib.Core.Bool.{Bool, true}
 use mathlib.Core.List.{List, [], _∷_, map}
 use native.Mathlib.Omega.{arith}
+use borrow.Author.Tests.{not-true}
 use borrow.Table.Steps.{cases}
 use lib.Dec.{leb, ltb}
 use Rattle.pricelevel.proofs.Bools.{and-parts}
@@ -12,21 +13,16 @@ use Rattle.pricelevel.specs.declared.Side.{Side}
 use Rattle.pricelevel.specs.declared.Side.the-variants.{Buy, Sell}
 use Rattle.stop_terms.proofs.Terms.{behind-under, behind-asym, tightened-behind}
 use Rattle.stop_terms.specs.Terms.{behind, candidate, tightened, ratcheted, trailedAt}
-use Rattle.book.proofs.Consistency.{consistent-parts, consistent-of}
-use Rattle.book.proofs.Lists.{All, all-map, every-all, all-every}
-use Rattle.book.proofs.Points.{all-mapped}
+use Rattle.book.proofs.Lists.{every-all, all-every, all-mapped}
+use Rattle.book.proofs.Soundness.{consistent-parts, consistent-of, sound-parts, sound-of}
 use Rattle.book.proofs.Stops.{trailed-keeps}
 use Rattle.book.proofs.Validity.{StopFits, SlotFits}
-use Rattle.book.specs.Book.{Slot, vacant, held, seqOf}
+use Rattle.book.specs.Book.{Slot, vacant, held}
 use Rattle.book.specs.Evaluation.{trailed, leaves, vacatedIf, settled}
 use Rattle.book.specs.Lists.{every}
+use Rattle.book.specs.Store.{withinWatermark}
 use Rattle.book.specs.Words.{consistent, soundStop, differs, allDiffer}
 use Rattle.book.specs.declared.StopEntry.{StopEntry}
-
--- what a point keeps of each record it keeps of all
-pub all-settled : (P Q : Slot → Type 0) (kill : Bool) (price : Price) → ((s : Slot) → P s → Q (settled kill price s)) → (ss : List Slot) → All P ss
-    → All Q (map (settled kill price) ss)
-all-settled P Q kill price f ss h = all-mapped Q (settled kill price) ss (all-map f ss h)
 
 -- what holds of a free record, and of a stop after trailing, holds of a record after a point
 pub settled-keeps : (P : Slot → Type 0) (kill : Bool) (price : Price) (s : Slot) → P vacant → ((t : StopEntry) → s ≡ held t → P (held (trailed price t)))
@@ -39,22 +35,28 @@ settled-keeps P kill price (held t) h k = cases (leaves kill price (trailed pric
 -- Soundness
 
 pub trailed-consistent : (price : Price) (t : StopEntry) → consistent t ≡ true → consistent (trailed price t) ≡ true
-unfolding trailed trailedAt ratcheted
+unfolding trailed trailedAt ratcheted withinWatermark
 trailed-consistent price t e =
     let h = consistent-parts t e in
     let s : Side = t .terms .side in
     cases (behind s (t .terms .watermark .0) (price .0))
-    (λ f. consistent-of (trailed price t) (rw f (h .0)) (rw f (behind-asym s _ (price .0)
-    (tightened-behind s (t .terms .trail) (price .0) (t .terms .stop .0) (h .0) (behind-under s _ _ _ (h .1) f)))))
+    (λ f. consistent-of (trailed price t) (rw f (h .0)) (rw (
+      f,
+      behind-asym s _ (price .0)
+          (tightened-behind s (t .terms .trail) (price .0) (t .terms .stop .0) (h .0) (behind-under s _ _ _ (not-true _ (h .1)) f)),
+    )))
     (λ f. consistent-of (trailed price t) (rw f (h .0)) (rw f (h .1)))
 
 pub trailed-sound : (next tick : ℕ) (price : Price) (t : StopEntry) → soundStop next tick (held t) ≡ true → soundStop next tick (held (trailed price t)) ≡ true
-unfolding soundStop trailed
+unfolding trailed
 trailed-sound next tick price t e =
-    let s = and-parts (ltb (seqOf t) next) _ e in
-    let q = and-parts (leb 1 (t .quantity .0)) _ (s .1) in
-    let c = and-parts (consistent t) _ (q .1) in
-    rw (s .0, q .0, trailed-consistent price t (c .0), trailed-keeps price t .1, c .1)
+    let s = sound-parts next tick t e in
+    sound-of next tick (trailed price t) (record {
+      sequence = s .sequence;
+      quantity = s .quantity;
+      terms = trailed-consistent price t (s .terms);
+      on-tick = rw (trailed-keeps price t .1) (s .on-tick);
+    })
 
 pub settled-sound : (next tick : ℕ) (kill : Bool) (price : Price) (s : Slot) → soundStop next tick s ≡ true → soundStop next tick (settled kill price s) ≡ true
 unfolding soundStop
@@ -81,7 +83,7 @@ settled-allDiffer kill price (held t ∷ ss) e =
     (λ f. rw (
       f,
       all-every (differs (trailed price t)) (map (settled kill price) ss)
-          (all-settled (λ s. differs t s ≡ true) (λ s. differs (trailed price t) s ≡ true) kill price (settled-differs kill price t) ss
+          (all-mapped (λ s. differs t s ≡ true) (λ s. differs (trailed price t) s ≡ true) (settled kill price) (settled-differs kill price t) ss
           (every-all (differs t) ss (h .0))),
     ) ih)
 

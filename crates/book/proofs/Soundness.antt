@@ -2,31 +2,31 @@
 use Prim.Native.Nat.{ℕ, _≤_, _<_}
 use native.Mathlib.Omega.{arith}
 use mathlib.Core.Path.{_≡_, refl}
-use mathlib.Core.Bool.{true, false, false≢true}
+use mathlib.Core.Bool.{true, not, _&&_}
 use borrow.Author.Tests.{ltb-true, lt-ltb, leb-true, le-leb, eqb-false, ne-eqb, not-true}
 use borrow.Table.Steps.{cases}
 use lib.Dec.{ltb, leb, eqb}
 use Rattle.pricelevel.proofs.Bools.{and-parts}
 use Rattle.pricelevel.specs.Tick.{onTick}
 use Rattle.stop_terms.specs.Terms.{behind, inconsistencyOf}
-use Rattle.book.specs.Book.{Slot, vacant, held, seqOf}
+use Rattle.book.specs.Book.{Slot, vacant, held, sideOf, stopOf, watermarkOf, seqOf}
 use Rattle.book.specs.Store.{withinWatermark}
 use Rattle.book.specs.Words.{consistent, soundStop}
 use Rattle.book.specs.declared.StopEntry.{StopEntry}
 
-pub consistent-parts : (t : StopEntry) → consistent t ≡ true → (1 ≤ t .terms .trail) × (withinWatermark (t .terms) ≡ true)
+-- no inconsistency: a trail of at least 1, and the stop not past the watermark
+consistent-tests : (t : StopEntry) → consistent t ≡ (not (eqb (t .terms .trail) 0) && withinWatermark (t .terms))
 unfolding consistent inconsistencyOf withinWatermark
-consistent-parts t h = cases (eqb (t .terms .trail) 0)
-    (λ e. absurd (false≢true (rw (e, consistent) at h)))
-    (λ e. cases (behind (t .terms .side) (t .terms .watermark .0) (t .terms .stop .0))
-    (λ f. absurd (false≢true (rw (e, f, consistent) at h)))
-    (λ f. (omega (arith, eqb-false (t .terms .trail) 0 e), rw f)))
+consistent-tests t = cases (eqb (t .terms .trail) 0) (λ e. rw (e, consistent))
+    (λ e. cases (behind (sideOf t) (watermarkOf t) (stopOf t)) (λ f. rw (e, f, consistent)) (λ f. rw (e, f, consistent)))
+
+pub consistent-parts : (t : StopEntry) → consistent t ≡ true → (1 ≤ t .terms .trail) × (withinWatermark (t .terms) ≡ true)
+consistent-parts t e =
+    let h = and-parts (not (eqb (t .terms .trail) 0)) _ (rw consistent-tests at e) in
+    (omega (arith, eqb-false (t .terms .trail) 0 (not-true (eqb (t .terms .trail) 0) (h .0))), h .1)
 
 pub consistent-of : (t : StopEntry) → 1 ≤ t .terms .trail → withinWatermark (t .terms) ≡ true → consistent t ≡ true
-unfolding consistent inconsistencyOf withinWatermark
-consistent-of t h e =
-    let f : behind (t .terms .side) (t .terms .watermark .0) (t .terms .stop .0) ≡ false = not-true _ e in
-    rw (ne-eqb (t .terms .trail) 0 (λ q. omega arith), f, consistent)
+consistent-of t h k = rw (consistent-tests t, ne-eqb (t .terms .trail) 0 (λ e. omega arith), k)
 
 pub record Sound (next tick : ℕ) (t : StopEntry) : Type 0 where
   pub sequence : seqOf t < next

@@ -1,15 +1,14 @@
 -- A valid book, part by part, and a book whose numbers are words.
-use Prim.Native.Nat.{ℕ, _≤_, _<_, _^_}
-use mathlib.Core.Path.{_≡_, refl}
-use mathlib.Core.Bool.{Bool, true, false, _&&_}
-use mathlib.Core.List.{List, [], _∷_}
+use Prim.Native.Nat.{_≤_, _<_, _^_}
+use mathlib.Core.Path.{_≡_}
+use mathlib.Core.Bool.{true, _&&_}
 use borrow.Author.Tests.{leb-true, le-leb}
 use lib.Dec.{leb}
 use lib.ListN.{length}
 use Rattle.pricelevel.proofs.Bools.{and-parts}
 use Rattle.book.proofs.Lists.{All, every-all, all-every, sameList-equal, sameList-refl}
 use Rattle.book.specs.Book.{Slot, vacant, held, Book}
-use Rattle.book.specs.Lists.{every, sameList}
+use Rattle.book.specs.Lists.{every}
 use Rattle.book.specs.Words.{mostRecords, soundStop, allDiffer, vacantIndices, sortRising, valid}
 use Rattle.book.specs.declared.StopEntry.{StopEntry}
 

@@ -16,12 +16,12 @@ use Rattle.pricelevel.specs.declared.IdKind.the-variants.{Uuid, Ulid, Sequentia
 use Rattle.pricelevel.specs.declared.Side.{Side}
 use Rattle.pricelevel.specs.declared.Side.the-variants.{Buy, Sell}
 use Rattle.book.proofs.ChainIndices.{headOr0-all, nextIn-all, chainIndices-range}
-use Rattle.book.proofs.FreeChain.{VacantFrom, free-all-vacant}
+use Rattle.book.proofs.FreeChain.{VacantFrom, pendingCount-vacant, free-all-vacant}
 use Rattle.book.proofs.Lists.{All, all-map, all-append, all-getD, every-all, all-every, sameList-equal, sameList-refl}
 use Rattle.book.proofs.Places.{layout-length, layout-count}
 use Rattle.book.proofs.Reading.{slotsAt-length, bookOf-layout}
 use Rattle.book.proofs.Validity.{Valid, valid-parts, valid-of, SlotFits, Fits}
-use Rattle.book.specs.Book.{Slot, vacant, held, Book, Chain, ByStop, ByWatermark, sideOf, pendingCount}
+use Rattle.book.specs.Book.{Slot, vacant, held, Book, Chain, ByStop, ByWatermark, sideOf}
 use Rattle.book.specs.Lists.{headOr0}
 use Rattle.book.specs.Store.{stored, storedBook}
 use Rattle.book.specs.Words.{headerLength, recordLength, storeLength, nextIn, chainIndices, header, recordWords, recordsWords, layout, cell, recordWord, entryAt, slotAt, slotsAt, bookOf, valid, areWords, wellFormed}
@@ -131,12 +131,6 @@ bookOf-slots-length w = slotsAt-length w 1 (getD w 0 0)
 ------------------------------------------------------------------------
 -- The layout of a valid book
 
-pendingCount-most : (ss : List Slot) → pendingCount ss ≤ length ss
-unfolding pendingCount
-pendingCount-most [] = omega arith
-pendingCount-most (vacant ∷ ss) = omega (arith, pendingCount-most ss)
-pendingCount-most (held t ∷ ss) = omega (arith, pendingCount-most ss)
-
 kindNumber-most : (k : IdKind) → kindNumber k ≤ 2
 kindNumber-most Uuid = omega arith
 kindNumber-most Ulid = omega arith
@@ -165,7 +159,7 @@ module _ (b : Book) (v : Valid b) (f : Fits b) where
   header-words =
       omega (
         arith,
-        pendingCount-most (b .slots),
+        pendingCount-vacant 1 (b .slots),
         head-word (ByStop Sell),
         head-word (ByWatermark Sell),
         head-word (ByStop Buy),
