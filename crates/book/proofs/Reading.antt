@@ -79,11 +79,11 @@ slotsAt-slots w i (s ∷ ss) h =
 ------------------------------------------------------------------------
 -- The free chain
 
-nextIn-here : (i : ℕ) (l : List ℕ) → nextIn (i ∷ l) i ≡ headOr0 l
+pub nextIn-here : (i : ℕ) (l : List ℕ) → nextIn (i ∷ l) i ≡ headOr0 l
 unfolding nextIn
 nextIn-here i l = rw (eq-eqb i i refl)
 
-nextIn-there : (i j : ℕ) (l : List ℕ) → i ≢ j → nextIn (i ∷ l) j ≡ nextIn l j
+pub nextIn-there : (i j : ℕ) (l : List ℕ) → i ≢ j → nextIn (i ∷ l) j ≡ nextIn l j
 unfolding nextIn
 nextIn-there i j l n = rw (ne-eqb j i (λ e. n (sym e)))
 
