@@ -1,1 +1,11 @@
+pub mod Cells
+pub mod Chained
+pub mod Data
+pub mod Kept
+pub mod Linking
+pub mod Members
+pub mod Moving
+pub mod Names
 pub mod Ranks
+pub mod Sorting
+pub mod Walking

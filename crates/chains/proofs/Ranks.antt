@@ -55,3 +55,7 @@ before-rank (ByWatermark Sell) x y f g = lexicographic-pair (watermarkOf x) (seq
 before-rank (ByWatermark Buy) x y f g =
     rw (top-ltb (watermarkOf x) (watermarkOf y) (f .watermark) (g .watermark), top-eqb (watermarkOf x) (watermarkOf y) (f .watermark) (g .watermark), top-ltb (seqOf x) (seqOf y) (f .seq) (g .seq))
     (lexicographic-pair (top - watermarkOf x) (top - seqOf x) (top - watermarkOf y) (top - seqOf y) (omega (arith, f .seq)) (omega (arith, g .seq)))
+
+-- a test of two numbers is one of those that they equal
+pub ltb-told : {t u : Bool} {x y a b : ℕ} → t ≡ ltb x y → x ≡ a → y ≡ b → t ≡ u → ltb a b ≡ u
+ltb-told p q r s = cc

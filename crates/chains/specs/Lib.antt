@@ -1,3 +1,4 @@
+pub mod Chained
 pub mod Indices
 pub mod Links
 pub mod Rank

@@ -4,6 +4,10 @@ use mathlib.Core.List.{List}
 use lib.ListN.{length}
 use Rattle.book.specs.Words.{mostRecords, storeLength}
 
+-- a record's data words stand before its links
+abbrev pub dataLength : ℕ
+dataLength = 9
+
 pub record Room (n : ℕ) (w : List ℕ) : Type 0 where
   pub few : n ≤ mostRecords
   pub room : storeLength n ≤ length w
