@@ -15,7 +15,7 @@ header-length : (b : Book) → length (header b) ≡ headerLength
 unfolding header
 header-length b = refl
 
-recordWords-length : (b : Book) (i : ℕ) (s : Slot) → length (recordWords b i s) ≡ recordLength
+pub recordWords-length : (b : Book) (i : ℕ) (s : Slot) → length (recordWords b i s) ≡ recordLength
 unfolding recordWords
 recordWords-length b i vacant = refl
 recordWords-length b i (held t) = refl

@@ -1,0 +1,5 @@
+pub mod ChainsOf
+pub mod StoredNumbers
+pub mod Search
+pub mod Sums
+pub mod Laying
