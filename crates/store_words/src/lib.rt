@@ -160,7 +160,7 @@ fn id_at(s: &[u64], n: u64, i: u64) -> Id
 }
 
 // The terms in record i.
-fn terms_at(s: &[u64], n: u64, i: u64) -> StopTerms
+pub fn terms_at(s: &[u64], n: u64, i: u64) -> StopTerms
     requires { ⌜ Record n (now s) i ⌝ }
     ensures { λ r. ⌜ r ≡ entryAt (now (s .entry)) i .terms ⌝ }
 {

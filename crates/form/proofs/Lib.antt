@@ -1,0 +1,13 @@
+pub mod Ascending
+pub mod Chained
+pub mod Counts
+pub mod Exact
+pub mod Groups
+pub mod Linking
+pub mod Members
+pub mod Pairs
+pub mod Placing
+pub mod Records
+pub mod Slots
+pub mod Tests
+pub mod Walks

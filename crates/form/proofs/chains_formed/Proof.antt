@@ -1,0 +1,72 @@
+-- `form::chains_formed` meets its contract: the records that the sides leave are those of the free chain.
+use mathlib.Core.Path.{sym, _∙_}
+use native.Mathlib.Omega.{arith}
+use borrow.Author.Tests.{not-true, not-false, eq-eqb, ne-eqb}
+use borrow.Author.Needs.{needs}
+use Rattle.form.specs.Check.{chainsFormed}
+use Rattle.form.proofs.Tests.{and-fails, and-passes}
+use Rattle.form.proofs.Walks.{chain-counted}
+use Rattle.form.proofs.Counts.{groupCount-rest, sides-pending, pendingCount-few}
+use Rattle.form.proofs.chains_formed.Statement.{statement}
+use Rattle.form.proofs.chains_formed.Tie as tie
+
+returns : tie.Need-returns
+unfolding chainsFormed
+returns c =
+    let b = c .before .before in
+    let e = sides-pending _ _ _ _ (b .before .count-of .ensures .0) (b .count-of2 .ensures .0) in
+    and-fails _ _ (ne-eqb _ _ (λ q. c .if1 .taken (q ∙ sym e)))
+
+returns-2 : tie.Need-returns-2
+unfolding chainsFormed
+returns-2 c =
+    let e1 = c .before .before in
+    let b = e1 .before .before in
+    let e = sides-pending _ _ _ _ (b .before .count-of .ensures .0) (b .count-of2 .ensures .0) in
+    and-passes _ _ _ (eq-eqb _ _ (e1 .if1 .left ∙ e)) (and-fails _ _ (sym (c .before .side-formed .ensures) ∙ not-true _ (c .if2 .taken)))
+
+returns-3 : tie.Need-returns-3
+unfolding chainsFormed
+returns-3 c =
+    let e2 = c .before .before in
+    let e1 = e2 .before .before in
+    let b = e1 .before .before in
+    let e = sides-pending _ _ _ _ (b .before .count-of .ensures .0) (b .count-of2 .ensures .0) in
+    and-passes _ _ _ (eq-eqb _ _ (e1 .if1 .left ∙ e))
+    (and-passes _ _ _ (sym (e2 .before .side-formed .ensures) ∙ not-false _ (e2 .if2 .left))
+    (and-fails _ _ (sym (c .before .side-formed2 .ensures) ∙ not-true _ (c .if3 .taken))))
+
+sub-walk-formed : tie.Need-sub-walk-formed
+sub-walk-formed c =
+    let b = c .before .before .before .before .before .before in
+    omega (arith, sides-pending _ _ _ _ (b .before .count-of .ensures .0) (b .count-of2 .ensures .0), pendingCount-few (b .before .before .before .args .s .now) (b .before .before .before .args .n))
+
+returns-4 : tie.Need-returns-4
+unfolding chainsFormed
+returns-4 c =
+    let e3 = c .before in
+    let e2 = e3 .before .before in
+    let e1 = e2 .before .before in
+    let b = e1 .before .before in
+    let e = sides-pending _ _ _ _ (b .before .count-of .ensures .0) (b .count-of2 .ensures .0) in
+    and-passes _ _ _ (eq-eqb _ _ (e1 .if1 .left ∙ e))
+    (and-passes _ _ _ (sym (e2 .before .side-formed .ensures) ∙ not-false _ (e2 .if2 .left))
+    (and-passes _ _ _ (sym (e3 .before .side-formed2 .ensures) ∙ not-false _ (e3 .if3 .left))
+    (chain-counted _ _ _ _ _ (rw e (sym (groupCount-rest _ _))) (c .walk-formed .ensures))))
+
+pub chains-formed-spec : {M : Type 1} → statement M
+chains-formed-spec =
+    tie.close
+    (tie.spec
+    (λ c κs. search needs)
+    (λ c κs. search needs)
+    (λ c. search needs)
+    (λ c. search needs)
+    returns
+    (λ c κs. search needs)
+    returns-2
+    (λ c κs. search needs)
+    returns-3
+    sub-walk-formed
+    (λ c κs. search needs)
+    returns-4)
