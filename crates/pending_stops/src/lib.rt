@@ -1,0 +1,116 @@
+// The operations that change a store: a stop out, a stop in, a stop changed.
+use book::StopEntry;
+use chains::cell;
+use chains::link;
+use chains::pop;
+use chains::push;
+use chains::set_data;
+use chains::unlink;
+use pricelevel::Id;
+use pricelevel::Quantity;
+use pricelevel::Seq;
+use pricelevel::Side;
+use stop_terms::StopTerms;
+ghost use mathlib.Core.List.{List};
+ghost use mathlib.Core.Path.{_≡_};
+ghost use Prim.Native.Nat.{ℕ, _+_, _-_, _<_, _^_};
+ghost use lib.ListN.{set};
+ghost use lib.Seq.{sets};
+ghost use Rattle.book.proofs.Operations.{Admissible};
+ghost use Rattle.book.proofs.Validity.{Valid, Fits};
+ghost use Rattle.book.specs.Book.{Book, vacant, held};
+ghost use Rattle.book.specs.Store.{vacated, admitted, newEntry};
+ghost use Rattle.book.specs.Words.{cell};
+ghost use Rattle.chains.specs.Records.{Record};
+ghost use Rattle.form.proofs.Members.{Member};
+ghost use Rattle.pending_stops.specs.Stored.{Stored, dataWords, replaced};
+
+// Stores the data words of a stop in record i.
+fn set_entry(s: &mut [u64], n: u64, i: u64, t: StopEntry)
+    requires { ⌜ Record n (now s) i ⌝ }
+    ensures { λ _. ⌜ now (s .exit) ≡ sets (now (s .entry)) (cell i 0) (dataWords (held t)) ⌝ }
+{
+    let id = t.id;
+    let kind = id.kind;
+    let terms = t.terms;
+    let side = terms.side;
+    let stop = terms.stop;
+    let watermark = terms.watermark;
+    let quantity = t.quantity;
+    let seq = t.seq;
+    set_data(
+        s,
+        n,
+        i,
+        kind.number() as u64,
+        id.high,
+        id.low,
+        side.number() as u64,
+        stop.0,
+        watermark.0,
+        terms.trail,
+        quantity.0,
+        seq.0,
+    );
+}
+
+// Makes the words of record i zero, but for the one that links a free record.
+fn blank(s: &mut [u64], n: u64, i: u64)
+    requires { ⌜ Record n (now s) i ⌝ }
+    ensures { λ _. ⌜ now (s .exit) ≡ set (sets (now (s .entry)) (cell i 0) (dataWords vacant)) (cell i 10) 0 ⌝ }
+{
+    set_data(s, n, i, 0, 0, 0, 0, 0, 0, 0, 0, 0);
+    let at = cell(i, 10);
+    s[at] = 0;
+}
+
+// Takes the stop of record i, of this side, out of the store.
+pub fn vacate(s: &mut [u64], n: u64, i: u64, side: Side)
+    requires { ⌜ ((b : Book) × (r : List ℕ) × Stored n (now s) b r × Member side (b .slots) i) ⌝ }
+    ensures { λ _. ⌜ ((b : Book) (r : List ℕ) → Stored n (now (s .entry)) b r → Member side (b .slots) i
+        → Stored n (now (s .exit)) (vacated i b) r) ⌝ }
+{
+    let count = s[1];
+    s[1] = count - 1;
+    unlink(s, n, side, i);
+    blank(s, n, i);
+    push(s, n, i);
+}
+
+// Puts another stop in the place of that of record i, of this side, and another next sequence.
+pub fn change(s: &mut [u64], n: u64, i: u64, side: Side, t: StopEntry, next: u64)
+    requires { ⌜ ((b : Book) × (r : List ℕ) × Stored n (now s) b r × Member side (b .slots) i
+        × Valid (replaced i t next b) × Fits (replaced i t next b)) ⌝ }
+    ensures { λ _. ⌜ ((b : Book) (r : List ℕ) → Stored n (now (s .entry)) b r → Member side (b .slots) i
+        → Valid (replaced i t next b) → Fits (replaced i t next b) → Stored n (now (s .exit)) (replaced i t next b) r) ⌝ }
+{
+    s[2] = next;
+    unlink(s, n, side, i);
+    set_entry(s, n, i, t);
+    let terms = t.terms;
+    let new_side = terms.side;
+    link(s, n, new_side, i);
+}
+
+// Takes a stop in, in the first free record, with the next sequence, which it answers.
+pub fn occupy(s: &mut [u64], n: u64, id: Id, terms: StopTerms, quantity: Quantity) -> Seq
+    requires { ⌜ ((b : Book) × (r : List ℕ) × Stored n (now s) b r × Admissible (newEntry id terms quantity b) b × (b .next + 1 < 2 ^ 64)) ⌝ }
+    ensures { λ q. ⌜ ((b : Book) (r : List ℕ) → Stored n (now (s .entry)) b r → Admissible (newEntry id terms quantity b) b → b .next + 1 < 2 ^ 64
+        → (q .0 ≡ b .next) × Stored n (now (s .exit)) (admitted (newEntry id terms quantity b) b) r) ⌝ }
+{
+    let count = s[1];
+    let next = s[2];
+    s[1] = count + 1;
+    s[2] = next + 1;
+    let i = pop(s, n);
+    let t = StopEntry {
+        id: id,
+        terms: terms,
+        quantity: quantity,
+        seq: Seq(next),
+    };
+    set_entry(s, n, i, t);
+    let side = terms.side;
+    link(s, n, side, i);
+    Seq(next)
+}
