@@ -91,8 +91,8 @@ module _ (b : Book) (v : Valid b) (f : Fits b) (side : Side) (i : ℕ) (m : Memb
   pub unlinked-ready : (n : ℕ) (u : List ℕ) → Ready n u (without side i (chainsOf b)) i → Ready n u (chainsWithout i b) i
   unlinked-ready n u = ready-same n u i (without side i (chainsOf b)) (chainsWithout i b) without-chains
 
-------------------------------------------------------------------------
--- Into the chains of a side
+  ------------------------------------------------------------------------
+  -- Into the chains of a side
 
   module _ (n : ℕ) (w r : List ℕ) (h : Contents n w (pendingCount (b .slots)) (b .next) (b .tick) (b .slots) r) where
     member-rank : (c : Chain) (s : Side) (j : ℕ) → Member s (b .slots) j → rankAt c w j ≡ rankIn c (b .slots) j

@@ -15,13 +15,13 @@ unlink-requires : tie.Need-unlink-requires
 unlink-requires c κs = let (b, r, st, m, v, f) = c .before .before .pre in (chainsOf b, replacing-on _ _ b r st _ _ m _ _ v f)
 
 set-entry-requires : tie.Need-set-entry-requires
-set-entry-requires c κs = 
+set-entry-requires c κs =
     let unlinked = c .before .before .before in
     let (b, r, st, m, v, f) = unlinked .before .before .before .pre in
     replacing-record _ _ b r st _ _ m _ _ v f _ (unlinked .unlink .ensures .0) (unlinked .unlink .ensures .1)
 
 link-requires : tie.Need-link-requires
-link-requires c κs = 
+link-requires c κs =
     let stored = c .before .before .before .before in
     let unlinked = stored .before .before .before .before in
     let (b, r, st, m, v, f) = unlinked .before .before .before .pre in (
@@ -30,7 +30,7 @@ link-requires c κs =
     )
 
 same-length : tie.Need-same-length
-same-length c = 
+same-length c =
     let linked = c .before .before in
     let stored = linked .before .before .before .before .before in
     let unlinked = stored .before .before .before .before in
@@ -38,7 +38,7 @@ same-length c =
     replaced-length _ _ b r st _ _ m _ _ v f _ (unlinked .unlink .ensures .0) (unlinked .unlink .ensures .1) _ (stored .set-entry .ensures) _ (linked .link .ensures .0)
 
 returns : tie.Need-returns
-returns c = 
+returns c =
     let linked = c .before .before in
     let stored = linked .before .before .before .before .before in
     let unlinked = stored .before .before .before .before in

@@ -29,7 +29,7 @@ slice-write-s-2 : tie.Need-slice-write-s-2
 slice-write-s-2 c = let (b, r, st, a, last) = c .before .before .before .pre in simp length-set (omega (arith, stored-room st))
 
 pop-requires : tie.Need-pop-requires
-pop-requires c κs = 
+pop-requires c κs =
     let (b, r, st, a, last) = c .before .before .before .before .pre in (
       chainsOf b,
       _,
@@ -39,13 +39,13 @@ pop-requires c κs =
     )
 
 set-entry-requires : tie.Need-set-entry-requires
-set-entry-requires c κs = 
+set-entry-requires c κs =
     let taken = c .before .before .before in
     let (b, r, st, a, last) = taken .before .before .before .before .before .pre in
     occupying-record _ _ b r st _ _ _ a _ (taken .pop .ensures .0) _ (taken .pop .ensures .1)
 
 link-requires : tie.Need-link-requires
-link-requires c κs = 
+link-requires c κs =
     let stored = c .before .before .before in
     let taken = stored .before .before .before .before in
     let (b, r, st, a, last) = taken .before .before .before .before .before .pre in (
@@ -54,7 +54,7 @@ link-requires c κs =
     )
 
 same-length : tie.Need-same-length
-same-length c = 
+same-length c =
     let linked = c .before .before in
     let stored = linked .before .before .before .before in
     let taken = stored .before .before .before .before in
@@ -63,7 +63,7 @@ same-length c =
 
 returns : tie.Need-returns
 unfolding newEntry
-returns c = 
+returns c =
     let linked = c .before .before in
     let stored = linked .before .before .before .before in
     let taken = stored .before .before .before .before in

@@ -6,7 +6,7 @@ use Rattle.pending_stops.proofs.set_entry.Tie as tie
 
 returns : tie.Need-returns
 unfolding dataWords
-returns c = 
+returns c =
     let stored = c .before .before in
     rw (← stored .before .before .number .ensures, ← stored .before .number2 .ensures) (stored .set-data .ensures)
 

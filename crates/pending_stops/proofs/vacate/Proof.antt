@@ -19,13 +19,13 @@ unlink-requires : tie.Need-unlink-requires
 unlink-requires c κs = let (b, r, st, m) = c .before .before .before .pre in (chainsOf b, on1 _ _ b r st _ _ m)
 
 blank-requires : tie.Need-blank-requires
-blank-requires c κs = 
+blank-requires c κs =
     let unlinked = c .before .before .before in
     let (b, r, st, m) = unlinked .before .before .before .before .pre in
     record2 _ _ b r st _ _ m _ (unlinked .unlink .ensures .0) (unlinked .unlink .ensures .1)
 
 push-requires : tie.Need-push-requires
-push-requires c κs = 
+push-requires c κs =
     let blanked = c .before .before .before in
     let unlinked = blanked .before .before .before .before in
     let (b, r, st, m) = unlinked .before .before .before .before .pre in (
@@ -35,7 +35,7 @@ push-requires c κs =
     )
 
 same-length : tie.Need-same-length
-same-length c = 
+same-length c =
     let pushed = c .before .before in
     let blanked = pushed .before .before .before .before in
     let unlinked = blanked .before .before .before .before in
@@ -43,7 +43,7 @@ same-length c =
     vacated-length _ _ b r st _ _ m _ (unlinked .unlink .ensures .0) (unlinked .unlink .ensures .1) _ (blanked .blank .ensures) _ (pushed .push .ensures .0)
 
 returns : tie.Need-returns
-returns c = 
+returns c =
     let pushed = c .before .before in
     let blanked = pushed .before .before .before .before in
     let unlinked = blanked .before .before .before .before in
