@@ -1,34 +1,31 @@
 -- What becomes of the chains when a record changes: a stop that leaves goes out of the two chains of its side, and one that comes goes
 -- in at its rank.
-use Prim.Native.Nat.{ℕ, zero, suc, _+_, _-_, _*_, _^_, _≤_, _<_}
+use Prim.Native.Nat.{ℕ, zero, suc, _+_, _-_, _≤_}
 use native.Mathlib.Omega.{arith}
 use native.Mathlib.Nat.{add-zero, add-suc, suc-add}
 use mathlib.Core.Path.{_≡_, refl, sym, ap, _∙_}
 use mathlib.Core.Logic.{_≢_}
 use mathlib.Core.List.{List, [], _∷_}
 use mathlib.Core.Option.{Option, none, some}
-use borrow.Author.Tests.{ltb-true, ltb-false, eqb-true, eqb-false}
 use borrow.Table.Steps.{cases}
-use lib.Dec.{T, ltb, eqb}
-use lib.ListN.{length, getD, set, length-set}
+use lib.Dec.{T}
+use lib.ListN.{getD, set, length-set}
 use lib.Seq.{getD-set-same, getD-set-other}
 use Rattle.pricelevel.specs.declared.Side.{Side}
-use Rattle.pricelevel.specs.declared.Side.the-variants.{Buy, Sell}
-use Rattle.book.proofs.Differing.{SlotsDiffer, slotsDiffer-vacant, differs-parts, allDiffer-others}
-use Rattle.book.proofs.Lists.{All, all-mapped, all-getD}
+use Rattle.book.proofs.Lists.{all-mapped}
 use Rattle.book.proofs.Lookup.{Gathered, gather-gathered}
 use Rattle.book.proofs.Operations.{vacated-fits}
-use Rattle.book.proofs.Validity.{Valid, StopFits, SlotFits, Fits}
-use Rattle.book.specs.Book.{Slot, vacant, held, Book, Pending, chainSide, sideOf, stopOf, watermarkOf, seqOf, withIndex, gather, pendingOn, indices}
+use Rattle.book.proofs.Validity.{Valid, Fits}
+use Rattle.book.specs.Book.{Slot, vacant, held, Book, chainSide, sideOf, withIndex, gather, pendingOn, indices}
 use Rattle.book.specs.Store.{vacated}
 use Rattle.book.specs.Words.{chainIndices}
 use Rattle.book.specs.declared.Chain.{Chain}
-use Rattle.book.specs.declared.Chain.the-variants.{ByStop, ByWatermark}
 use Rattle.book.specs.declared.StopEntry.{StopEntry}
-use Rattle.chains.proofs.Members.{has-none, has-all, all-has, has-remove, remove-here, remove-there, remove-absent}
+use Rattle.chains.proofs.Members.{has-none, has-cases, has-all, all-has, has-remove, remove-here, remove-there, remove-absent}
 use Rattle.chains.proofs.Sorting.{RanksDiffer, has-sortBy, sortBy-out, sortBy-cong, remove-insertBy}
 use Rattle.chains.specs.Indices.{insertBy, sortBy, remove, has}
-use Rattle.chains.specs.Rank.{top, rank}
+use Rattle.form.proofs.Ascending as ascending
+use Rattle.form.proofs.Groups.{members-ranks}
 use Rattle.form.proofs.Members.{members, rankOfSlot, rankIn, Member, members-held, held-member, chain-members}
 
 ------------------------------------------------------------------------
@@ -75,42 +72,16 @@ vacant-absent side ss i m =
 ------------------------------------------------------------------------
 -- The ranks of stops differ
 
-low-word : (a c x y : ℕ) → x < 2 ^ 64 → y < 2 ^ 64 → a * 2 ^ 64 + x ≡ c * 2 ^ 64 + y → x ≡ y
-low-word a c x y hx hy e = cases (ltb a c)
-    (λ p. absurd (omega (arith, ltb-true a c p)))
-    (λ p. cases (ltb c a) (λ q. absurd (omega (arith, ltb-true c a q))) (λ q. omega (arith, ltb-false a c p, ltb-false c a q)))
+differ-members : (rk : ℕ → ℕ) (l : List ℕ) → ascending.RanksDiffer rk l → RanksDiffer rk l
+differ-members rk [] d i j hi hj e = absurd (has-none i hi)
+differ-members rk (k ∷ l) d i j hi hj e =
+    let Apart : ℕ → Type 0 = λ m. rk k ≡ rk m → ⊥ in
+    has-cases i k l hi
+    (λ p. has-cases j k l hj (λ q. sym p ∙ q) (λ t. absurd (all-has Apart l (d .0) j t (rw p e))))
+    (λ s. has-cases j k l hj (λ q. absurd (all-has Apart l (d .0) i s (rw q (sym e)))) (λ t. differ-members rk l (d .1) i j s t e))
 
--- a rank tells the sequence
-rank-sequence : (c : Chain) (t u : StopEntry) → StopFits t → StopFits u → rank c t ≡ rank c u → seqOf t ≡ seqOf u
-unfolding rank
-rank-sequence (ByStop Sell) t u f g e = low-word (top - stopOf t) (top - stopOf u) (seqOf t) (seqOf u) (f .seq) (g .seq) e
-rank-sequence (ByStop Buy) t u f g e = low-word (stopOf t) (stopOf u) (seqOf t) (seqOf u) (f .seq) (g .seq) e
-rank-sequence (ByWatermark Sell) t u f g e = low-word (watermarkOf t) (watermarkOf u) (seqOf t) (seqOf u) (f .seq) (g .seq) e
-rank-sequence (ByWatermark Buy) t u f g e =
-    let h = low-word (top - watermarkOf t) (top - watermarkOf u) (top - seqOf t) (top - seqOf u) (omega arith) (omega arith) e in
-    omega (arith, f .seq, g .seq)
-
-module _ (b : Book) (v : Valid b) (f : Fits b) where
-  member-fits : (side : Side) (i : ℕ) (m : Member side (b .slots) i) → StopFits (m .entry)
-  member-fits side i m = rw (m .there) at (all-getD SlotFits (b .slots) (i - 1) vacant tt (f .slots))
-
-  -- the stops of two records differ in sequence
-  members-differ : (side : Side) (i j : ℕ) (m : Member side (b .slots) i) (o : Member side (b .slots) j) → i ≢ j → seqOf (m .entry) ≢ seqOf (o .entry)
-  members-differ side i j m o n e =
-      let others : All (SlotsDiffer (held (m .entry))) (set (b .slots) (i - 1) vacant) = rw (m .there) at (allDiffer-others (b .slots) (i - 1) (v .differ)) in
-      let there = getD-set-other (b .slots) (i - 1) (j - 1) vacant vacant (λ q. n (omega (arith, m .from, o .from))) in
-      differs-parts (m .entry) (o .entry)
-      (rw (there, o .there) at
-      (all-getD (SlotsDiffer (held (m .entry))) (set (b .slots) (i - 1) vacant) (j - 1) vacant (slotsDiffer-vacant (held (m .entry))) others))
-      .1 e
-
-  ranks-differ : (c : Chain) → RanksDiffer (rankIn c (b .slots)) (members (chainSide c) 1 (b .slots))
-  ranks-differ c i j hi hj e =
-      let m = has-member (chainSide c) (b .slots) i hi in
-      let o = has-member (chainSide c) (b .slots) j hj in
-      let r : rank c (m .entry) ≡ rank c (o .entry) = rw (m .there, o .there) at e in
-      let s = rank-sequence c (m .entry) (o .entry) (member-fits (chainSide c) i m) (member-fits (chainSide c) j o) r in
-      cases (eqb i j) (eqb-true i j) (λ n. absurd (members-differ (chainSide c) i j m o (eqb-false i j n) s))
+ranks-differ : (c : Chain) (b : Book) → Valid b → Fits b → RanksDiffer (rankIn c (b .slots)) (members (chainSide c) 1 (b .slots))
+ranks-differ c b v f = differ-members (rankIn c (b .slots)) (members (chainSide c) 1 (b .slots)) (members-ranks c (b .slots) (v .differ) (f .slots))
 
 ------------------------------------------------------------------------
 -- Records in chains
@@ -161,7 +132,7 @@ module _ (c : Chain) (b : Book) (v : Valid b) (f : Fits b) (i : ℕ) (from : 1 �
   pub chain-out : chainIndices c (vacated i b) ≡ remove i (chainIndices c b)
   chain-out = out-chain ∙ rw (chain-members c b (f .slots)) (cases (has i here)
       (λ e.
-      rw (sortBy-out ranked i here (rw e tt) (ranks-differ b v f c))
+      rw (sortBy-out ranked i here (rw e tt) (ranks-differ c b v f))
       (sym (remove-insertBy ranked i (sortBy ranked (remove i here)) (λ h. out-absent (rw (has-sortBy ranked i (remove i here)) at h)))))
       (λ e.
       rw (remove-absent i here (λ h. rw e at h))
@@ -170,7 +141,7 @@ module _ (c : Chain) (b : Book) (v : Valid b) (f : Fits b) (i : ℕ) (from : 1 �
   -- a stop is in the chains of its side at its rank
   pub chain-in : Member (chainSide c) (b .slots) i → chainIndices c b ≡ insertBy (rankIn c (b .slots)) i (chainIndices c (vacated i b))
   chain-in m =
-      chain-members c b (f .slots) ∙ sortBy-out ranked i here (member-has (chainSide c) (b .slots) i m) (ranks-differ b v f c)
+      chain-members c b (f .slots) ∙ sortBy-out ranked i here (member-has (chainSide c) (b .slots) i m) (ranks-differ c b v f)
       ∙ ap (insertBy ranked i) (sym out-chain)
 
   -- and in no other

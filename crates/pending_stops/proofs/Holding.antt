@@ -8,7 +8,7 @@ use mathlib.Core.List.{List, [], _∷_, _++_}
 use borrow.Author.Tests.{ltb-true, ltb-false, eqb-true, eqb-false, eq-eqb, ne-eqb}
 use borrow.Table.Steps.{cases}
 use lib.Dec.{T, ltb, eqb}
-use lib.ListN.{length, getD, drop, replicate, length-append, length-drop, List·getD-append}
+use lib.ListN.{length, getD, drop, replicate, length-append, take-append-drop, List·getD-append}
 use lib.Seq.{getD-append-add, getD-drop, ext-getD, drop-at}
 use Rattle.pricelevel.specs.Identity.{kindNumber}
 use Rattle.pricelevel.specs.Side.{sideNumber}
@@ -24,13 +24,17 @@ use Rattle.book.specs.Words.{headerLength, recordLength, storeLength, nextIn, c
 use Rattle.book.specs.declared.Chain.{Chain}
 use Rattle.book.specs.declared.Chain.the-variants.{ByStop, ByWatermark}
 use Rattle.book.specs.declared.StopEntry.{StopEntry}
-use Rattle.chains.proofs.Members.{has-none, has-here, has-there, has-rest, all-has}
+use Rattle.chains.proofs.Members.{has-all, all-has}
 use Rattle.chains.proofs.Sorting.{has-sortBy}
 use Rattle.chains.specs.Chained.{Name, of, free, nameHead, nameLink, group, Chained}
 use Rattle.chains.specs.Indices.{insertBy, sortBy, has}
 use Rattle.chains.specs.Links.{headOf, linkOf, Linked}
 use Rattle.chains.specs.Records.{dataLength, Room}
+use Rattle.form.proofs.Ascending.{itself, sortBy-within, sortRising-itself}
+use Rattle.form.proofs.Groups.{vacant-member}
+use Rattle.form.proofs.Linking.{Names, linked-head, linked-names}
 use Rattle.form.proofs.Members.{Member}
+use Rattle.form.proofs.Placing.{layout-taken}
 use Rattle.store_words.proofs.ChainsOf.{layout-linked, layout-free-linked}
 use Rattle.pending_stops.proofs.ChainChanges.{chain-member, member-chain}
 use Rattle.pending_stops.specs.Stored.{Stored, dataWords}
@@ -122,51 +126,22 @@ stored-holds {n} {w} {b} {r} st =
     rw (st .words, ← st .records) (record { contents = layout-contents b r (st .valid) (st .fits); chained = layout-chained b r (st .valid) (st .fits) })
 
 ------------------------------------------------------------------------
--- Every vacant record is in the free chain
-
-insertRising-insertBy : (i : ℕ) (l : List ℕ) → insertRising i l ≡ insertBy (λ j. j) i l
-unfolding insertRising insertBy
-insertRising-insertBy i [] = refl
-insertRising-insertBy i (j ∷ l) = rw (insertRising-insertBy i l)
-
-sortRising-sortBy : (l : List ℕ) → sortRising l ≡ sortBy (λ j. j) l
-unfolding sortRising sortBy
-sortRising-sortBy [] = refl
-sortRising-sortBy (i ∷ l) = rw (sortRising-sortBy l) (insertRising-insertBy i (sortBy (λ j. j) l))
-
-vacantIndices-has : (i : ℕ) (ss : List Slot) (k : ℕ) → k < length ss → getD ss k vacant ≡ vacant → T (has (i + k) (vacantIndices i ss))
-unfolding vacantIndices
-vacantIndices-has i [] k h e = absurd (omega arith)
-vacantIndices-has i (vacant ∷ ss) zero h e = rw add-zero (has-here i (vacantIndices (suc i) ss))
-vacantIndices-has i (held t ∷ ss) zero h e = absurd (held-vacant refl e)
-vacantIndices-has i (vacant ∷ ss) (suc k) h e =
-    has-there (i + suc k) i (vacantIndices (suc i) ss) (rw (add-suc, ← suc-add) (vacantIndices-has (suc i) ss k (omega arith) e))
-vacantIndices-has i (held t ∷ ss) (suc k) h e = rw (add-suc, ← suc-add) (vacantIndices-has (suc i) ss k (omega arith) e)
-
-pub vacant-free : (b : Book) → Valid b → (i : ℕ) → 1 ≤ i → i ≤ length (b .slots) → getD (b .slots) (i - 1) vacant ≡ vacant → T (has i (b .free))
-vacant-free b v i low high e =
-    let q : 1 + (i - 1) ≡ i = omega arith in
-    rw (← v .free-vacant, sortRising-sortBy, has-sortBy, q) at (vacantIndices-has 1 (b .slots) (i - 1) (omega arith) e)
-
-------------------------------------------------------------------------
 -- To the layout
 
-module _ (n : ℕ) (w : List ℕ) (k : ℕ) where
-  linked-head : (p : ℕ) (l : List ℕ) → Linked n w k p l → getD w p 0 ≡ headOr0 l
-  unfolding headOr0
-  linked-head p [] c = c
-  linked-head p (j ∷ l) c = c .0
-
-  linked-next : (p : ℕ) (l : List ℕ) (i : ℕ) → Linked n w k p l → T (has i l) → recordWord w i k ≡ nextIn l i
-  unfolding nextIn recordWord
-  linked-next p [] i c h = absurd (has-none i h)
-  linked-next p (j ∷ l) i c h = cases (eqb i j)
-      (λ e. rw (e, eqb-true i j e) (linked-head (cell j k) l (c .3)))
-      (λ e. rw e (linked-next (cell j k) l i (c .3) (has-rest i j l (λ q. eqb-false i j e (sym q)) h)))
+-- every vacant record is in the free chain
+vacant-free : (b : Book) → Valid b → (i : ℕ) → 1 ≤ i → i ≤ length (b .slots) → getD (b .slots) (i - 1) vacant ≡ vacant → T (has i (b .free))
+vacant-free b v i low high e =
+    let InFree : ℕ → Type 0 = λ j. T (has j (b .free)) in
+    let sorted = rw (← sortRising-itself (b .free), v .free-vacant) at (sortBy-within itself (b .free) InFree (has-all InFree (b .free) (λ j h. h))) in
+    vacant-member InFree 1 (b .slots) sorted i (record { low = low; high = omega arith; is-vacant = e })
 
 module _ (n : ℕ) (w : List ℕ) (b : Book) (r : List ℕ) (v : Valid b) (f : Fits b) (h : Holds n w b r) where
   chain-head : (a : Name) → getD w (nameHead a) 0 ≡ headOr0 (chainsOf b a)
   chain-head a = linked-head n w (nameLink a) (nameHead a) (chainsOf b a) (h .chained .linked a)
+
+  chain-next : (a : Name) (i : ℕ) → T (has i (chainsOf b a)) → recordWord w i (nameLink a) ≡ nextIn (chainsOf b a) i
+  chain-next a =
+      all-has (Names n w (nameLink a) (chainsOf b a)) (chainsOf b a) (linked-names n w (nameLink a) (nameHead a) (chainsOf b a) (h .chained .linked a))
 
   header-words : (k : ℕ) → k < headerLength → getD w k 0 ≡ getD (header b) k 0
   unfolding header
@@ -187,13 +162,12 @@ module _ (n : ℕ) (w : List ℕ) (b : Book) (r : List ℕ) (v : Valid b) (f : F
   unfolding recordWords chainSide
   links-words i low high vacant e =
       let t = vacant-free b v i low (rw (h .contents .records) high) e in
-      (linked-next n w 9 8 (b .free) i (h .chained .linked free) t, h .chained .blank i t)
+      (chain-next free i t, h .chained .blank i t)
   links-words i low high (held t) e = (next (ByStop (sideOf t)) refl, next (ByWatermark (sideOf t)) refl)
     where
       next : (c : Chain) → chainSide c ≡ sideOf t → recordWord w i (linkOf c) ≡ nextIn (chainIndices c b) i
       next c q =
-          linked-next n w (linkOf c) (headOf c) (chainIndices c b) i (h .chained .linked (of c))
-          (member-chain c b f i (record { from = low; to = rw (h .contents .records) high; entry = t; there = e; of-side = q }))
+          chain-next (of c) i (member-chain c b f i (record { from = low; to = rw (h .contents .records) high; entry = t; there = e; of-side = q }))
 
   record-words : (i k : ℕ) → 1 ≤ i → i ≤ n → k < recordLength → recordWord w i k ≡ getD (recordWords b i (getD (b .slots) (i - 1) vacant)) k 0
   record-words i k low high l = cases (ltb k dataLength)
@@ -204,32 +178,12 @@ module _ (n : ℕ) (w : List ℕ) (b : Book) (r : List ℕ) (v : Valid b) (f : F
       (λ q. rw (eqb-true k 9 q) (links .0))
       (λ q. let z : k ≡ 10 = omega (arith, ltb-false k dataLength e, eqb-false k 9 q) in rw z (links .1)))
 
-  -- what stands at each place
-  place-words : (p : ℕ) → getD w p 0 ≡ getD (layout b ++ r) p 0
-  unfolding cell recordWord
-  place-words p = cases (ltb p headerLength)
-      (λ e. let d = ltb-true p headerLength e in header-words p d ∙ sym (layout-header b r p d))
-      (λ e. cases (ltb p (storeLength n))
-      (λ g.
-      let i : ℕ = (p - headerLength) / recordLength + 1 in
-      let k : ℕ = (p - headerLength) % recordLength in
-      let q = div-add-mod' (p - headerLength) recordLength in
-      let l : k < recordLength = mod-lt (p - headerLength) (omega arith) in
-      let z : p ≡ cell i k = omega (arith, ltb-false p headerLength e) in
-      let high : i ≤ n = omega (arith, ltb-false p headerLength e, ltb-true p (storeLength n) g) in
-      rw z (record-words i k (omega arith) high l ∙ sym (layout-record b r i k (omega arith) (rw (h .contents .records) high) l)))
-      (λ g.
-      let z : p ≡ length (layout b) + (p - storeLength n) = omega (arith, layout-length b, h .contents .records, ltb-false p (storeLength n) g) in
-      let y : storeLength n + (p - storeLength n) ≡ p = omega (arith, ltb-false p (storeLength n) g) in
-      rw (← h .contents .beyond) (ap (λ (q : ℕ). getD w q 0) (sym y) ∙ sym (getD-drop (storeLength n) w (p - storeLength n) 0)
-      ∙ sym (ap (λ (q : ℕ). getD (layout b ++ drop (storeLength n) w) q 0) z ∙ getD-append-add (layout b) (drop (storeLength n) w) (p - storeLength n) 0))))
-
   pub holds-stored : Stored n w b r
   holds-stored = record {
     valid = v;
     fits = f;
     records = h .contents .records;
-    words = ext-getD 0 w (layout b ++ r)
-        (rw (length-append, layout-length b, h .contents .records, ← h .contents .beyond, length-drop) (omega (arith, h .chained .inside .room)))
-        (λ p _. place-words p);
+    words =
+        let front = layout-taken w b header-words (λ i k low high. record-words i k low (rw (h .contents .records) at high)) (rw (h .contents .records) (h .chained .inside .room)) in
+        sym (take-append-drop (storeLength n) w) ∙ rw (rw (h .contents .records) at front, h .contents .beyond);
   }

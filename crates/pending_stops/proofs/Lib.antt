@@ -1,5 +1,6 @@
 pub mod ChainChanges
 pub mod Entering
+pub mod Finding
 pub mod Holding
 pub mod Occupying
 pub mod Placing
