@@ -13,7 +13,7 @@ use Rattle.book.proofs.Lookup.{InBook, lookup-found}
 use Rattle.book.proofs.WellFormed.{wellFormed-valid, wellFormed-fits, wellFormed-layout, bookOf-slots-length}
 use Rattle.book.specs.Book.{Book, Pending, sideOf}
 use Rattle.book.specs.Questions.{firstNo, decide}
-use Rattle.book.specs.Store.{StoreOutcome, stored, storedBook, lookup, vacated, cancelFound, cancel}
+use Rattle.book.specs.Store.{StoreOutcome, stored, storedBook, lookup, vacated, cancelFound, cancel, entryOf, find}
 use Rattle.book.specs.Words.{storeLength, entryAt, bookOf, wellFormed}
 use Rattle.book.specs.declared.StopEntry.{StopEntry}
 use Rattle.chains.specs.Records.{Room, Record}
@@ -104,3 +104,19 @@ cancel-done id w e i f t q u st = (
   ap accepted (q ∙ found-entry w e id i f) ∙ sym (ap (λ (o : StoreOutcome StopEntry). o .answer) (cancel-found id w e i f)),
   stored-words w u (vacated i (bookOf w)) st ∙ sym (ap (λ (o : StoreOutcome StopEntry). o .words) (cancel-found id w e i f)),
 )
+
+------------------------------------------------------------------------
+-- Find
+
+pub find-unformed : (id : Id) (w : List ℕ) → wellFormed w ≡ false → refused 1 ≡ find id w
+unfolding find firstNo decide
+find-unformed id w e = rw e
+
+pub find-missing : (id : Id) (w : List ℕ) → wellFormed w ≡ true → lookup id (bookOf w) ≡ none → accepted none ≡ find id w
+unfolding find firstNo decide entryOf
+find-missing id w e q = rw (e, q)
+
+pub find-found : (id : Id) (w : List ℕ) (e : wellFormed w ≡ true) (i : ℕ) (f : Found id (bookOf w) i) (t : StopEntry) → t ≡ entryAt w i
+    → accepted (some t) ≡ find id w
+unfolding find firstNo decide entryOf
+find-found id w e i f t q = rw (e, f .looked, q ∙ found-entry w e id i f)

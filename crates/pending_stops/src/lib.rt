@@ -23,11 +23,11 @@ ghost use lib.Seq.{sets};
 ghost use Rattle.book.proofs.Operations.{Admissible};
 ghost use Rattle.book.proofs.Validity.{Valid, Fits};
 ghost use Rattle.book.specs.Book.{Book, vacant, held};
-ghost use Rattle.book.specs.Store.{vacated, admitted, newEntry, cancel};
+ghost use Rattle.book.specs.Store.{vacated, admitted, newEntry, cancel, find};
 ghost use Rattle.book.specs.Words.{cell};
 ghost use Rattle.chains.specs.Records.{Record};
 ghost use Rattle.form.proofs.Members.{Member};
-ghost use Rattle.pending_stops.specs.Answers.{toldCancel};
+ghost use Rattle.pending_stops.specs.Answers.{toldCancel, toldFind};
 ghost use Rattle.pending_stops.specs.Stored.{Stored, dataWords, replaced};
 
 // Stores the data words of a stop in record i.
@@ -144,4 +144,26 @@ pub fn cancel_pending_stop(s: &mut [u64], id: Id) -> CancelAnswer
     let side = terms.side;
     vacate(s, n, i, side);
     CancelAnswer::Ok(t)
+}
+
+// What a search for an identity answers: the pending stop, none, or why it was refused.
+pub enum FindAnswer {
+    Found(StopEntry),
+    None,
+    Err(Refusal),
+}
+
+// The pending stop of an identity, if there is one. The store is only read. Refused: it is not well formed (1).
+pub fn pending_stop(s: &[u64], id: Id) -> FindAnswer
+    ensures { λ r. ⌜ toldFind r ≡ find id (now (s .entry)) ⌝ }
+{
+    if !well_formed(s) {
+        return FindAnswer::Err(Refusal::StoreNotWellFormed);
+    }
+    let n = s[0];
+    let at = find_id(s, n, id);
+    if at == 0 {
+        return FindAnswer::None;
+    }
+    FindAnswer::Found(entry_at(s, n, at))
 }

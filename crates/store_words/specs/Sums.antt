@@ -12,7 +12,7 @@ use Rattle.store_words.specs.declared.TwoWords.{TwoWords}
 abbrev pub amount : TwoWords → ℕ
 amount t = t .high * 2 ^ 64 + t .low
 
--- a sum and an answer in the paper's terms
+-- a sum and an answer in document 01's terms
 unfoldable pub toldSum : TwoWords → store.TwoWords
 toldSum t = record { high = t .high; low = t .low }
 
