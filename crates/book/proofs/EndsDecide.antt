@@ -65,16 +65,16 @@ module _ (s : Settings) (o r : Evaluated) (a : Agree o r) where
 
 module _ (w : List ℕ) (formed : wellFormed w ≡ true) where
   segment-accepted : (elected : List Elected) (moved : List Moved) → pendingIn w ≤ length elected → 2 * pendingIn w ≤ length moved
-      → firstNo (segmentQuestions w elected moved) ≡ none
+      → firstNo (segmentQuestions w (length elected) (length moved)) ≡ none
   unfolding segmentQuestions
   segment-accepted elected moved h k =
-      firstNo-of (segmentQuestions w elected moved) (formed, (rw (le-leb (pendingIn w) (length elected) h, le-leb (2 * pendingIn w) (length moved) k), tt))
+      firstNo-of (segmentQuestions w (length elected) (length moved)) (formed, (rw (le-leb (pendingIn w) (length elected) h, le-leb (2 * pendingIn w) (length moved) k), tt))
 
   walk-accepted : (prices : List Price) (elected : List Elected) → pendingIn w ≤ length elected → 1 ≤ length prices → length prices ≤ mostPrices
-      → firstNo (walkQuestions prices w elected) ≡ none
+      → firstNo (walkQuestions prices w (length elected)) ≡ none
   unfolding walkQuestions
   walk-accepted prices elected h k l =
-      firstNo-of (walkQuestions prices w elected)
+      firstNo-of (walkQuestions prices w (length elected))
       (formed, (le-leb (pendingIn w) (length elected) h, (rw (le-leb 1 (length prices) k, le-leb (length prices) mostPrices l), tt)))
 
 -- Demand 3. For every well-formed store, every run of 1 to 4,096 prices that never falls or never rises, prev or none, collar or none, any

@@ -6,7 +6,7 @@ use mathlib.Core.Bool.{Bool, true, false, cond, not, _||_}
 use mathlib.Core.List.{List}
 use native.Mathlib.Omega.{arith}
 use lib.Dec.{eqb}
-use lib.ListN.{getD}
+use lib.ListN.{getD, length}
 use Rattle.error.specs.Answer.{accepted}
 use Rattle.pricelevel.specs.declared.Price.{Price}
 use Rattle.book.proofs.Accepted.{Accepted, decide-accepted, book-stored}
@@ -84,14 +84,14 @@ module _ (s : Settings) (w : List ℕ) (elected : List Elected) where
   segmentCall-lost prints moved fits =
       decide-accepted (λ (o : SegmentOutcome). o .answer) (λ o v. Lost (segment (s .kill) prints (bookOf w) .book) (v .elected) w (o .words)) _ _ _ (λ k. refl)
       (λ e. points-lost (s .kill) w (segment-points (s .kill) prints (bookOf w)) (segmentPrices-fits prints fits)
-      (firstNo-none (segmentQuestions w elected moved) e .0))
+      (firstNo-none (segmentQuestions w (length elected) (length moved)) e .0))
 
   pub walkCall-lost : (prev : LastPrice) (prices : List Price) → All PriceFits prices → (a : Accepted (walkCall s prev prices w elected .answer))
       → Lost (walk (s .kill) prev prices (bookOf w) .book) (a .0 .elected) w (walkCall s prev prices w elected .words)
   unfolding walkCall walkQuestions
   walkCall-lost prev prices fits =
       decide-accepted (λ (o : WalkOutcome). o .answer) (λ o v. Lost (walk (s .kill) prev prices (bookOf w) .book) (v .elected) w (o .words)) _ _ _ (λ k. refl)
-      (λ e. points-lost (s .kill) w (walk-points (s .kill) prev prices (bookOf w)) fits (firstNo-none (walkQuestions prices w elected) e .0))
+      (λ e. points-lost (s .kill) w (walk-points (s .kill) prev prices (bookOf w)) fits (firstNo-none (walkQuestions prices w (length elected)) e .0))
 
   module _ (script : List ℕ) (words : All IsWord script) where
     passed-lost : (prints : PrintSegment) → SegmentFits prints → wellFormed w ≡ true → (a : Accepted (passed s script prints w elected .answer))
@@ -107,7 +107,7 @@ module _ (s : Settings) (w : List ℕ) (elected : List Elected) where
     unfolding passCall passQuestions
     passCall-lost prints fits =
         decide-accepted (λ (o : PassOutcome). o .answer) (λ o v. Lost (pass s script prints (bookOf w) .book) (v .elected) w (o .words)) _ _ _ (λ k. refl)
-        (λ e. passed-lost prints fits (firstNo-none (passQuestions script w elected) e .0))
+        (λ e. passed-lost prints fits (firstNo-none (passQuestions script w (length elected)) e .0))
 
     pub runCall-lost : (trade : LastPrice) (path : PrintPath) → PriceFits (path .first) → TradeFits trade
         → (a : Accepted (runCall s script trade w elected path .answer)) → Lost (runBook s script trade w path) (a .0 .elected) w (runCall s script trade w elected path .words)
@@ -115,6 +115,6 @@ module _ (s : Settings) (w : List ℕ) (elected : List Elected) where
     runCall-lost trade path h k =
         decide-accepted (λ (o : RunOutcome). o .answer) (λ o v. Lost (runBook s script trade w path) (v .elected) w (o .words)) _ _ _ (λ k. refl)
         (λ e.
-        let formed = firstNo-none (passQuestions script w elected) e .0 in
+        let formed = firstNo-none (passQuestions script w (length elected)) e .0 in
         either-lost w (eqb (pendingIn w) 0 || not (path .«open»)) _ _ _ _ (idle-lost w formed _ refl)
         (passed-lost (segmentOf path trade) (segmentOf-fits path trade h k) formed))

@@ -24,6 +24,7 @@ pub mod Refusals
 pub mod Rising
 pub mod Settling
 pub mod Soundness
+pub mod Steps
 pub mod Stops
 pub mod Validity
 pub mod WellFormed

@@ -9,9 +9,7 @@ use lib.ListN.{length, drop}
 use Rattle.error.specs.Answer.{Answer, refused, accepted}
 use Rattle.pricelevel.specs.declared.Price.{Price}
 use Rattle.stop_protection.specs.Collar.{limitUnder}
-use Rattle.stop_protection.specs.declared.Protection.{Protection}
 use Rattle.stop_trigger.specs.Child.{childId}
-use Rattle.uuid.specs.declared.Uuid.{Uuid}
 use Rattle.book.specs.Book.{Book, sideOf, pendingCount}
 use Rattle.book.specs.Evaluation.{Fill, Evaluated, segment, walk}
 use Rattle.book.specs.Path.{segmentOf, closed}
@@ -24,12 +22,7 @@ use Rattle.book.specs.declared.LastPrice.{LastPrice}
 use Rattle.book.specs.declared.Moved.{Moved}
 use Rattle.book.specs.declared.PrintPath.{PrintPath}
 use Rattle.book.specs.declared.PrintSegment.{PrintSegment}
-
--- the settings of an evaluation: kill switch, collar or none, namespace
-pub record Settings : Type 0 where
-  pub kill : Bool
-  pub protection : Protection
-  pub namespace : Uuid
+pub use Rattle.book.specs.declared.Settings.{Settings}
 
 -- an elected entry: the stop as it left, the trigger price, the limit, the child identity, and whether that is pending in the book after
 -- the segment, in a walk after its last price
@@ -82,14 +75,14 @@ unfoldable pub pendingIn : List ℕ → ℕ
 pendingIn w = pendingCount (bookOf w .slots)
 
 -- elected list at least count entries, moved list at least 2 × count? 14
-unfoldable pub segmentQuestions : List ℕ → List Elected → List Moved → List Question
+unfoldable pub segmentQuestions : List ℕ → ℕ → ℕ → List Question
 segmentQuestions w elected moved =
-    question 1 (wellFormed w) ∷ question 14 (leb (pendingIn w) (length elected) && leb (2 * pendingIn w) (length moved)) ∷ []
+    question 1 (wellFormed w) ∷ question 14 (leb (pendingIn w) elected && leb (2 * pendingIn w) moved) ∷ []
 
 unfoldable pub segmentCall : Settings → PrintSegment → List ℕ → List Elected → List Moved → SegmentOutcome
 segmentCall s prints w elected moved =
     let o : Evaluated = segment (s .kill) prints (bookOf w) in
-    decide (firstNo (segmentQuestions w elected moved))
+    decide (firstNo (segmentQuestions w (length elected) (length moved)))
     (λ k. record { answer = refused k; words = w; elected = elected; moved = moved })
     (record {
       answer = accepted (countsOf o);
@@ -110,17 +103,17 @@ abbrev pub mostPrices : ℕ
 mostPrices = 4096
 
 -- elected list at least count? 14; 1 to 4,096 prices? 16
-unfoldable pub walkQuestions : List Price → List ℕ → List Elected → List Question
+unfoldable pub walkQuestions : List Price → List ℕ → ℕ → List Question
 walkQuestions prices w elected =
     question 1 (wellFormed w)
-    ∷ question 14 (leb (pendingIn w) (length elected))
+    ∷ question 14 (leb (pendingIn w) elected)
     ∷ question 16 (leb 1 (length prices) && leb (length prices) mostPrices)
     ∷ []
 
 unfoldable pub walkCall : Settings → LastPrice → List Price → List ℕ → List Elected → WalkOutcome
 walkCall s prev prices w elected =
     let o : Evaluated = walk (s .kill) prev prices (bookOf w) in
-    decide (firstNo (walkQuestions prices w elected))
+    decide (firstNo (walkQuestions prices w (length elected)))
     (λ k. record { answer = refused k; words = w; elected = elected })
     (record {
       answer = accepted (countsOf o);
@@ -167,10 +160,10 @@ pub record PassOutcome : Type 0 where
   pub elected : List Elected
 
 -- elected list at least count? 14; script well formed? 15
-unfoldable pub passQuestions : List ℕ → List ℕ → List Elected → List Question
+unfoldable pub passQuestions : List ℕ → List ℕ → ℕ → List Question
 passQuestions script w elected =
     question 1 (wellFormed w)
-    ∷ question 14 (leb (pendingIn w) (length elected))
+    ∷ question 14 (leb (pendingIn w) elected)
     ∷ question 15 (scriptFormed script)
     ∷ []
 
@@ -185,7 +178,7 @@ passed s script prints w elected =
 
 unfoldable pub passCall : Settings → List ℕ → PrintSegment → List ℕ → List Elected → PassOutcome
 passCall s script prints w elected =
-    decide (firstNo (passQuestions script w elected))
+    decide (firstNo (passQuestions script w (length elected)))
     (λ k. record { answer = refused k; words = w; elected = elected })
     (passed s script prints w elected)
 
@@ -209,6 +202,6 @@ runOver s script trade w elected path =
 -- it goes through the pass's questions first
 unfoldable pub runCall : Settings → List ℕ → LastPrice → List ℕ → List Elected → PrintPath → RunOutcome
 runCall s script trade w elected path =
-    decide (firstNo (passQuestions script w elected))
+    decide (firstNo (passQuestions script w (length elected)))
     (λ k. record { answer = refused k; words = w; elected = elected; path = path })
     (runOver s script trade w elected path)

@@ -6,7 +6,9 @@ use pricelevel::Quantity;
 use pricelevel::Seq;
 use pricelevel::Side;
 use stop_protection::Limit;
+use stop_protection::Protection;
 use stop_terms::StopTerms;
+use uuid::Uuid;
 
 // A pending stop: its identity, its terms as they stand, its quantity and its admission sequence.
 pub struct StopEntry {
@@ -70,4 +72,12 @@ pub struct Elected {
 pub struct Moved {
     pub id: Id,
     pub stop: Price,
+}
+
+// The settings of an evaluation: the kill switch, under which stops trail and none is elected; the collar, or none; and the namespace
+// of child identities.
+pub struct Settings {
+    pub kill: bool,
+    pub protection: Protection,
+    pub namespace: Uuid,
 }

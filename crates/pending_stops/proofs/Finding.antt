@@ -1,19 +1,17 @@
 -- What a call finds in well-formed words: the book, and a pending stop by its identity.
 use Prim.Native.Nat.{ℕ}
 use native.Mathlib.Omega.{arith}
-use mathlib.Core.Path.{_≡_, refl, sym, ap, _∙_}
+use mathlib.Core.Path.{_≡_, refl, sym, _∙_}
 use mathlib.Core.Logic.{_≢_}
-use mathlib.Core.Bool.{true, false}
+use mathlib.Core.Bool.{true}
 use mathlib.Core.List.{List}
 use mathlib.Core.Option.{Option, none, some}
 use lib.ListN.{length, getD, drop}
-use Rattle.error.specs.Answer.{refused, accepted}
 use Rattle.pricelevel.specs.declared.Id.{Id}
 use Rattle.book.proofs.Lookup.{InBook, lookup-found}
 use Rattle.book.proofs.WellFormed.{wellFormed-valid, wellFormed-fits, wellFormed-layout, bookOf-slots-length}
 use Rattle.book.specs.Book.{Book, Pending, sideOf}
-use Rattle.book.specs.Questions.{firstNo, decide}
-use Rattle.book.specs.Store.{StoreOutcome, stored, storedBook, lookup, vacated, cancelFound, cancel, entryOf, find}
+use Rattle.book.specs.Store.{stored, storedBook, lookup}
 use Rattle.book.specs.Words.{storeLength, entryAt, bookOf, wellFormed}
 use Rattle.book.specs.declared.StopEntry.{StopEntry}
 use Rattle.chains.specs.Records.{Room, Record}
@@ -75,48 +73,3 @@ module _ (w : List ℕ) (e : wellFormed w ≡ true) (id : Id) (i : ℕ) (f : Fou
   found-member t q =
       rw (q ∙ found-entry)
       (record { from = f .in-book .from; to = f .in-book .to; entry = f .entry; there = f .in-book .there; of-side = refl })
-
-------------------------------------------------------------------------
--- Cancel
-
-pub cancel-unformed : (id : Id) (w : List ℕ) → wellFormed w ≡ false → cancel id w ≡ record { answer = refused 1; words = w }
-unfolding cancel firstNo decide
-cancel-unformed id w e = rw e
-
-pub cancel-missing : (id : Id) (w : List ℕ) → wellFormed w ≡ true → lookup id (bookOf w) ≡ none → cancel id w ≡ record { answer = refused 12; words = w }
-unfolding cancel firstNo decide cancelFound
-cancel-missing id w e q = rw (e, q)
-
-pub cancel-found : (id : Id) (w : List ℕ) → wellFormed w ≡ true → (i : ℕ) (f : Found id (bookOf w) i)
-    → cancel id w ≡ record { answer = accepted (f .entry); words = storedBook (vacated i (bookOf w)) w }
-unfolding cancel firstNo decide cancelFound
-cancel-found id w e i f = rw (e, f .looked)
-
--- what a cancel answers and leaves in each case
-pub cancel-refused-as : (id : Id) (w : List ℕ) (k : ℕ) → cancel id w ≡ record { answer = refused k; words = w }
-    → (refused k ≡ cancel id w .answer) × (w ≡ cancel id w .words)
-cancel-refused-as id w k q =
-    (sym (ap (λ (o : StoreOutcome StopEntry). o .answer) q), sym (ap (λ (o : StoreOutcome StopEntry). o .words) q))
-
-pub cancel-done : (id : Id) (w : List ℕ) (e : wellFormed w ≡ true) (i : ℕ) (f : Found id (bookOf w) i) (t : StopEntry) → t ≡ entryAt w i
-    → (u : List ℕ) → Stored (getD w 0 0) u (vacated i (bookOf w)) (beyond w) → (accepted t ≡ cancel id w .answer) × (u ≡ cancel id w .words)
-cancel-done id w e i f t q u st = (
-  ap accepted (q ∙ found-entry w e id i f) ∙ sym (ap (λ (o : StoreOutcome StopEntry). o .answer) (cancel-found id w e i f)),
-  stored-words w u (vacated i (bookOf w)) st ∙ sym (ap (λ (o : StoreOutcome StopEntry). o .words) (cancel-found id w e i f)),
-)
-
-------------------------------------------------------------------------
--- Find
-
-pub find-unformed : (id : Id) (w : List ℕ) → wellFormed w ≡ false → refused 1 ≡ find id w
-unfolding find firstNo decide
-find-unformed id w e = rw e
-
-pub find-missing : (id : Id) (w : List ℕ) → wellFormed w ≡ true → lookup id (bookOf w) ≡ none → accepted none ≡ find id w
-unfolding find firstNo decide entryOf
-find-missing id w e q = rw (e, q)
-
-pub find-found : (id : Id) (w : List ℕ) (e : wellFormed w ≡ true) (i : ℕ) (f : Found id (bookOf w) i) (t : StopEntry) → t ≡ entryAt w i
-    → accepted (some t) ≡ find id w
-unfolding find firstNo decide entryOf
-find-found id w e i f t q = rw (e, f .looked, q ∙ found-entry w e id i f)

@@ -6,15 +6,11 @@ use chains::pop;
 use chains::push;
 use chains::set_data;
 use chains::unlink;
-use error::Refusal;
-use form::well_formed;
 use pricelevel::Id;
 use pricelevel::Quantity;
 use pricelevel::Seq;
 use pricelevel::Side;
 use stop_terms::StopTerms;
-use store_words::entry_at;
-use store_words::find_id;
 ghost use mathlib.Core.List.{List};
 ghost use mathlib.Core.Path.{_≡_};
 ghost use Prim.Native.Nat.{ℕ, _+_, _-_, _<_, _^_};
@@ -23,11 +19,10 @@ ghost use lib.Seq.{sets};
 ghost use Rattle.book.proofs.Operations.{Admissible};
 ghost use Rattle.book.proofs.Validity.{Valid, Fits};
 ghost use Rattle.book.specs.Book.{Book, vacant, held};
-ghost use Rattle.book.specs.Store.{vacated, admitted, newEntry, cancel, find};
+ghost use Rattle.book.specs.Store.{vacated, admitted, newEntry};
 ghost use Rattle.book.specs.Words.{cell};
 ghost use Rattle.chains.specs.Records.{Record};
 ghost use Rattle.form.proofs.Members.{Member};
-ghost use Rattle.pending_stops.specs.Answers.{toldCancel, toldFind};
 ghost use Rattle.pending_stops.specs.Stored.{Stored, dataWords, replaced};
 
 // Stores the data words of a stop in record i.
@@ -118,52 +113,4 @@ pub fn occupy(s: &mut [u64], n: u64, id: Id, terms: StopTerms, quantity: Quantit
     let side = terms.side;
     link(s, n, side, i);
     Seq(next)
-}
-
-// What a cancel answers: the stop as it was, or why it was refused.
-pub enum CancelAnswer {
-    Ok(StopEntry),
-    Err(Refusal),
-}
-
-// Takes the pending stop of an identity out. Refused: the store is not well formed (1), no such stop (12).
-pub fn cancel_pending_stop(s: &mut [u64], id: Id) -> CancelAnswer
-    ensures { λ r. ⌜ toldCancel r ≡ cancel id (now (s .entry)) .answer ⌝ }
-    ensures { λ _. ⌜ now (s .exit) ≡ cancel id (now (s .entry)) .words ⌝ }
-{
-    if !well_formed(&s[..]) {
-        return CancelAnswer::Err(Refusal::StoreNotWellFormed);
-    }
-    let n = s[0];
-    let i = find_id(&s[..], n, id);
-    if i == 0 {
-        return CancelAnswer::Err(Refusal::OrderNotFound);
-    }
-    let t = entry_at(&s[..], n, i);
-    let terms = t.terms;
-    let side = terms.side;
-    vacate(s, n, i, side);
-    CancelAnswer::Ok(t)
-}
-
-// What a search for an identity answers: the pending stop, none, or why it was refused.
-pub enum FindAnswer {
-    Found(StopEntry),
-    None,
-    Err(Refusal),
-}
-
-// The pending stop of an identity, if there is one. The store is only read. Refused: it is not well formed (1).
-pub fn pending_stop(s: &[u64], id: Id) -> FindAnswer
-    ensures { λ r. ⌜ toldFind r ≡ find id (now (s .entry)) ⌝ }
-{
-    if !well_formed(s) {
-        return FindAnswer::Err(Refusal::StoreNotWellFormed);
-    }
-    let n = s[0];
-    let at = find_id(s, n, id);
-    if at == 0 {
-        return FindAnswer::None;
-    }
-    FindAnswer::Found(entry_at(s, n, at))
 }

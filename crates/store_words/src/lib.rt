@@ -124,7 +124,7 @@ pub fn layout_store(s: &mut [u64], n: u64, tick: u64) -> LayoutAnswer
 }
 
 // What a kind's word stands for.
-fn kind_of(k: u64) -> IdKind
+pub fn kind_of(k: u64) -> IdKind
     ensures { λ r. ⌜ r ≡ kindOf k ⌝ }
 {
     match k {
@@ -135,7 +135,7 @@ fn kind_of(k: u64) -> IdKind
 }
 
 // What a side's word stands for.
-fn side_from(k: u64) -> Side
+pub fn side_from(k: u64) -> Side
     ensures { λ r. ⌜ r ≡ sideFrom k ⌝ }
 {
     match k {

@@ -1,0 +1,8 @@
+pub mod Along
+pub mod Choosing
+pub mod Completing
+pub mod Leading
+pub mod Listed
+pub mod Noting
+pub mod Sets
+pub mod Walked

@@ -1,0 +1,12 @@
+pub mod Behind
+pub mod Inserting
+pub mod Mapped
+pub mod Moved
+pub mod Ordering
+pub mod Passed
+pub mod Relinking
+pub mod Resorting
+pub mod Slots
+pub mod Trailed
+pub mod Walking
+pub mod Writing

@@ -1,0 +1,2 @@
+pub mod Resort
+pub mod Trail
