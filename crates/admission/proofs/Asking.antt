@@ -10,8 +10,6 @@ use borrow.Author.Tests.{le-leb, lt-leb, lt-ltb, le-ltb}
 use borrow.Table.Steps.{cases}
 use lib.Dec.{leb, ltb}
 use lib.ListN.{length, getD}
-use Rattle.error.specs.Refusal.{refusalNumber}
-use Rattle.error.specs.declared.Refusal.{Refusal}
 use Rattle.pricelevel.specs.Tick.{onTick}
 use Rattle.pricelevel.specs.declared.Id.{Id}
 use Rattle.pricelevel.specs.declared.Quantity.{Quantity}
@@ -25,21 +23,7 @@ use Rattle.book.specs.declared.LastPrice.{LastPrice}
 use Rattle.pending_stops.proofs.Finding.{missing, found, wellFormed-stored}
 use Rattle.pending_stops.proofs.Holding.{stored-holds}
 use Rattle.store_words.specs.Search.{indexOr0}
-use Rattle.admission.specs.Answers.{toldVerdict}
 use Rattle.admission.specs.Asked.{termsQuestions, storeQuestions}
-use Rattle.admission.specs.declared.Verdict.{Verdict}
-use Rattle.admission.specs.declared.Verdict.the-variants as verdict
-
-------------------------------------------------------------------------
--- What the questions came to
-
-pub all-yes : (v : Verdict) (x : Option ℕ) → v ≡ verdict.Accepted → toldVerdict v ≡ x → none ≡ x
-unfolding toldVerdict
-all-yes v x e h = rw e at h
-
-pub one-no : (v : Verdict) (x : Option ℕ) (r : Refusal) → v ≡ verdict.Refused r → toldVerdict v ≡ x → some (refusalNumber r) ≡ x
-unfolding toldVerdict
-one-no v x r e h = rw e at h
 
 ------------------------------------------------------------------------
 -- The terms and the quantity that a change leads to

@@ -1,5 +1,4 @@
 -- What the calls answer, in document 01's terms.
-use Prim.Native.Nat.{ℕ}
 use mathlib.Core.Option.{Option, none, some}
 use Rattle.error.specs.Answer.{Answer, refused, accepted}
 use Rattle.error.specs.Refusal.{refusalNumber}
@@ -15,13 +14,6 @@ use Rattle.admission.specs.declared.QuantityAnswer.{QuantityAnswer}
 use Rattle.admission.specs.declared.QuantityAnswer.the-variants as quantity
 use Rattle.admission.specs.declared.StopAnswer.{StopAnswer}
 use Rattle.admission.specs.declared.StopAnswer.the-variants as changed
-use Rattle.admission.specs.declared.Verdict.{Verdict}
-use Rattle.admission.specs.declared.Verdict.the-variants as verdict
-
--- the number of the first question answered no, if there is one
-unfoldable pub toldVerdict : Verdict → Option ℕ
-toldVerdict verdict.Accepted = none
-toldVerdict (verdict.Refused e) = some (refusalNumber e)
 
 unfoldable pub toldAdmission : AdmissionAnswer → Answer Seq
 toldAdmission (admission.Ok seq) = accepted seq

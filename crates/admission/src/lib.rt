@@ -5,6 +5,7 @@ use book::OrderUpdate;
 use book::PrintPath;
 use book::StopEntry;
 use error::Refusal;
+use error::Verdict;
 use form::well_formed;
 use pending_stops::change;
 use pending_stops::occupy;
@@ -35,17 +36,12 @@ ghost use Rattle.book.specs.Questions.{firstNo};
 ghost use Rattle.book.specs.Store.{withinWatermark, notTriggered, clear, find, admit, cancel, changedTerms, changedQuantity, takesSequence, cancels, differsInPrice, withTerms, admissionQuestions, changeQuestions, changedEntry, pendingQuantity};
 ghost use Rattle.book.specs.Store as store;
 ghost use Rattle.book.specs.Words.{bookOf, wellFormed};
+ghost use Rattle.error.specs.Verdict.{toldVerdict};
 ghost use Rattle.store_words.specs.Empty.{toldLayout};
-ghost use Rattle.admission.specs.Answers.{toldVerdict, toldAdmission, toldStop, toldFind, toldQuantity};
+ghost use Rattle.admission.specs.Answers.{toldAdmission, toldStop, toldFind, toldQuantity};
 ghost use Rattle.admission.specs.Asked.{termsQuestions, storeQuestions};
 
 const TOP: u64 = 0xffff_ffff_ffff_ffff;
-
-// What the questions of a call come to: all are answered yes, or one is the first that is answered no.
-pub enum Verdict {
-    Accepted,
-    Refused(Refusal),
-}
 
 // Whether the stop is on the right side of its watermark, or at it.
 fn within_watermark(terms: StopTerms) -> bool

@@ -51,3 +51,9 @@ impl Refusal {
         }
     }
 }
+
+// What the questions of a call come to: all are answered yes, or one is the first that is answered no.
+pub enum Verdict {
+    Accepted,
+    Refused(Refusal),
+}

@@ -1,1 +1,5 @@
 pub mod PointSteps
+pub mod Pointing
+pub mod Segmenting
+pub mod Stepping
+pub mod Walking

@@ -15,10 +15,11 @@ use Rattle.book.proofs.Lists.{all-of, map-agree}
 use Rattle.book.proofs.Points.{gather-none, freed-append}
 use Rattle.book.proofs.Steps.{isSide, trailedSlot, trailedOn, elect, electedIn, vacatedBy, stays, takenOn}
 use Rattle.book.proofs.Stops.{trailed-keeps}
-use Rattle.book.specs.Book.{Slot, vacant, held, Book, Pending, gather, sort, sideOf, stopOf, ofSide}
+use Rattle.book.specs.Book.{Slot, vacant, held, Book, gather, sort, sideOf, stopOf, ofSide}
 use Rattle.book.specs.Evaluation.{trailed, leaves, vacatedIf, settled, leavingOn, leaver, electedOn, electedBy, freed, changedOn, mover}
 use Rattle.book.specs.Evaluation.{movedOn, movedBy, fillAt, point}
 use Rattle.book.specs.declared.StopEntry.{StopEntry}
+use Rattle.points.specs.Steps.{other, firstSide, trailedBoth, electedBoth, takenBoth}
 
 ------------------------------------------------------------------------
 -- What is taken from changed records
@@ -34,10 +35,6 @@ map-same f g h l = map-agree f g l (all-of h l)
 
 ------------------------------------------------------------------------
 -- The two sides
-
-unfoldable pub other : Side → Side
-other Sell = Buy
-other Buy = Sell
 
 isSide-other : (d s : Side) → isSide (other d) s ≡ not (isSide d s)
 unfolding isSide other
@@ -145,15 +142,6 @@ killed-leaver price d (held t) = refl
 ------------------------------------------------------------------------
 -- The books that the steps leave
 
--- the sells trail, then the buys
-unfoldable pub trailedBoth : Price → Book → Book
-trailedBoth price b = trailedOn Buy price (trailedOn Sell price b)
-
--- the side whose elected leave first
-unfoldable pub firstSide : Bool → Side
-firstSide true = Sell
-firstSide false = Buy
-
 module _ (price : Price) (b : Book) where
   trailedBoth-slots : trailedBoth price b .slots ≡ map (trailedWhole price) (b .slots)
   unfolding trailedBoth trailedOn other
@@ -174,14 +162,6 @@ module _ (price : Price) (b : Book) where
 
 ------------------------------------------------------------------------
 -- A point
-
--- the elected of both sides, one side first
-unfoldable pub electedBoth : Side → Price → Book → List Pending
-electedBoth d price b = electedIn d price b ++ electedIn (other d) price (takenOn d price b)
-
--- they leave
-unfoldable pub takenBoth : Side → Price → Book → Book
-takenBoth d price b = takenOn (other d) price (takenOn d price b)
 
 module _ (price : Price) (b : Book) where
   electedBy-steps : (first : Bool) → electedBy false first price b ≡ electedBoth (firstSide first) price (trailedBoth price b)

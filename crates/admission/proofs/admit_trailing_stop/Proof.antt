@@ -1,13 +1,13 @@
 -- `admission::admit_trailing_stop` meets its contract: refused by a question, or admitted into the book.
 use mathlib.Core.Path.{sym}
 use native.Mathlib.Omega.{arith}
+use Rattle.error.proofs.Verdicts.{all-yes, one-no}
 use Rattle.book.proofs.Operations.{admission-admissible}
 use Rattle.book.specs.Words.{bookOf}
 use Rattle.pending_stops.proofs.Finding.{beyond, wellFormed-stored}
 use Rattle.store_words.proofs.ChainsOf.{wellFormed-room}
 use Rattle.admission.specs.Answers.{toldAdmission}
 use Rattle.admission.proofs.Admitting.{admit-refused, admit-done}
-use Rattle.admission.proofs.Asking.{all-yes, one-no}
 use borrow.Author.Needs.{needs}
 use borrow.Author.Needs.{needs}
 use Rattle.admission.proofs.admit_trailing_stop.Statement.{statement}

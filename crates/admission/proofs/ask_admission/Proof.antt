@@ -2,9 +2,10 @@
 use mathlib.Core.Path.{sym, _∙_}
 use native.Mathlib.Omega.{arith}
 use borrow.Author.Tests.{not-true, not-false}
+use Rattle.error.proofs.Verdicts.{all-yes, one-no}
 use Rattle.store_words.proofs.ChainsOf.{wellFormed-room}
-use Rattle.admission.specs.Answers.{toldVerdict}
-use Rattle.admission.proofs.Asking.{all-yes, one-no, admission-unformed, admission-terms, admission-store}
+use Rattle.error.specs.Verdict.{toldVerdict}
+use Rattle.admission.proofs.Asking.{admission-unformed, admission-terms, admission-store}
 use borrow.Author.Needs.{needs}
 use borrow.Author.Needs.{needs}
 use Rattle.admission.proofs.ask_admission.Statement.{statement}

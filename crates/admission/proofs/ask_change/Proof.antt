@@ -3,7 +3,7 @@ use mathlib.Core.Path.{sym, _∙_}
 use borrow.Author.Tests.{not-true, not-false, lt-ltb, le-ltb}
 use Rattle.book.specs.Questions.{firstNo}
 use Rattle.book.specs.Store.{changeQuestions}
-use Rattle.admission.specs.Answers.{toldVerdict}
+use Rattle.error.specs.Verdict.{toldVerdict}
 use Rattle.admission.proofs.Asking.{quantity-some, quantity-none, within-as, triggered-as}
 use borrow.Author.Needs.{needs}
 use borrow.Author.Needs.{needs}

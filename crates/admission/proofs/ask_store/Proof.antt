@@ -4,7 +4,7 @@ use native.Mathlib.Omega.{arith}
 use borrow.Author.Tests.{not-true, not-false}
 use Rattle.book.specs.Questions.{firstNo}
 use Rattle.store_words.proofs.ChainsOf.{wellFormed-room}
-use Rattle.admission.specs.Answers.{toldVerdict}
+use Rattle.error.specs.Verdict.{toldVerdict}
 use Rattle.admission.specs.Asked.{storeQuestions}
 use Rattle.admission.proofs.Asking.{pending-found, pending-missing, tick-as, room-left, room-none, sequence-left, sequence-none}
 use borrow.Author.Needs.{needs}

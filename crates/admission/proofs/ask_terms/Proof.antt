@@ -3,7 +3,7 @@ use mathlib.Core.Path.{sym, _∙_}
 use native.Mathlib.Omega.{arith}
 use borrow.Author.Tests.{not-true, not-false, le-leb, lt-leb}
 use Rattle.book.specs.Questions.{firstNo}
-use Rattle.admission.specs.Answers.{toldVerdict}
+use Rattle.error.specs.Verdict.{toldVerdict}
 use Rattle.admission.specs.Asked.{termsQuestions}
 use borrow.Author.Needs.{needs}
 use borrow.Author.Needs.{needs}

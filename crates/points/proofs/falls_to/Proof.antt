@@ -1,0 +1,12 @@
+-- `points::falls_to` meets its contract.
+use Rattle.book.specs.Evaluation.{fallsTo}
+use mathlib.Core.Path.{refl}
+use Rattle.points.proofs.falls_to.Statement.{statement}
+use Rattle.points.proofs.falls_to.Tie as tie
+
+returns : tie.Need-returns
+unfolding fallsTo
+returns c = refl
+
+pub falls-to-spec : {M : Type 1} → statement M
+falls-to-spec = tie.close (tie.spec returns)

@@ -1,0 +1,5 @@
+pub mod Advancing
+pub mod Executing
+pub mod Forming
+pub mod Printing
+pub mod Queueing
