@@ -1,3 +1,4 @@
 pub mod Asking
 pub mod EndsDecide
 pub mod Outcomes
+pub mod Passes

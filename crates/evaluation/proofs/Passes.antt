@@ -1,0 +1,154 @@
+-- What a pass and a run answer and leave, refused and accepted.
+use Prim.Native.Nat.{ℕ, _≤_, _<_}
+use native.Mathlib.Omega.{arith}
+use mathlib.Core.Path.{_≡_, refl, sym, ap, _∙_}
+use mathlib.Core.Bool.{Bool, true, false, not, cond, _||_}
+use mathlib.Core.List.{List, map}
+use mathlib.Core.Option.{Option, none, some}
+use borrow.Author.Tests.{leb-true, le-leb, lt-leb, ne-eqb}
+use borrow.Table.Steps.{cases}
+use lib.Dec.{eqb}
+use lib.ListN.{length, getD, length-map}
+use lib.Seq.{sets}
+use Rattle.error.specs.Answer.{refused, accepted}
+use Rattle.book.proofs.Passing.{pass-count}
+use Rattle.book.proofs.Questions.{firstNo-none}
+use Rattle.book.specs.Book.{pendingCount}
+use Rattle.book.specs.Calls.{Passed, pass, pendingIn, passQuestions}
+use Rattle.book.specs.Calls as calls
+use Rattle.book.specs.Path.{segmentOf, closed, take}
+use Rattle.book.specs.Questions.{firstNo, decide}
+use Rattle.book.specs.Script.{scriptFormed}
+use Rattle.book.specs.Words.{bookOf, wellFormed}
+use Rattle.book.specs.declared.LastPrice.{LastPrice}
+use Rattle.book.specs.declared.PrintPath.{PrintPath}
+use Rattle.book.specs.declared.PrintSegment.{PrintSegment}
+use Rattle.book.specs.declared.Settings.{Settings}
+use Rattle.listing.proofs.Sets.{sets-written}
+use Rattle.listing.specs.Entries.{electedWords}
+use Rattle.pending_stops.proofs.Finding.{beyond, stored-words}
+use Rattle.pending_stops.specs.Stored.{Stored}
+use Rattle.evaluation.specs.Listed.{PassListed, passedListed, passListed, RunListed, runOverListed, runListed}
+use Rattle.evaluation.proofs.Asking.{count-word}
+
+------------------------------------------------------------------------
+-- The questions, from what the code asked
+
+pub pass-unformed : (script w : List ℕ) (elected : ℕ) → wellFormed w ≡ false → some 1 ≡ firstNo (passQuestions script w elected)
+unfolding firstNo passQuestions
+pass-unformed script w elected e = rw e
+
+module _ (script w : List ℕ) (elected : ℕ) (e : wellFormed w ≡ true) where
+  pub pass-few-elected : elected < getD w 1 0 → some 14 ≡ firstNo (passQuestions script w elected)
+  unfolding firstNo passQuestions
+  pass-few-elected h = rw (e, lt-leb (pendingIn w) elected (rw (← count-word w e) h))
+
+  pub pass-no-script : getD w 1 0 ≤ elected → scriptFormed script ≡ false → some 15 ≡ firstNo (passQuestions script w elected)
+  unfolding firstNo passQuestions
+  pass-no-script h g = rw (e, le-leb (pendingIn w) elected (rw (← count-word w e) h), g)
+
+  pub pass-asked : getD w 1 0 ≤ elected → scriptFormed script ≡ true → none ≡ firstNo (passQuestions script w elected)
+  unfolding firstNo passQuestions
+  pass-asked h g = rw (e, le-leb (pendingIn w) elected (rw (← count-word w e) h), g)
+
+------------------------------------------------------------------------
+-- What the questions leave
+
+module _ (script w : List ℕ) (elected : ℕ) (h : firstNo (passQuestions script w elected) ≡ none) where
+  pub pass-formed : wellFormed w ≡ true
+  unfolding passQuestions
+  pass-formed = firstNo-none (passQuestions script w elected) h .0
+
+  pub pass-elected : pendingCount (bookOf w .slots) ≤ elected
+  unfolding passQuestions pendingIn
+  pass-elected = leb-true _ _ (firstNo-none (passQuestions script w elected) h .1 .0)
+
+  pub pass-script : scriptFormed script ≡ true
+  unfolding passQuestions
+  pass-script = firstNo-none (passQuestions script w elected) h .1 .1 .0
+
+------------------------------------------------------------------------
+-- The pass
+
+module _ (s : Settings) (script : List ℕ) (prints : PrintSegment) (w : List ℕ) (elected : List (List ℕ)) where
+  abbrev done : PassListed
+  done = passedListed s script prints w elected
+
+  abbrev after : Passed
+  after = pass s script prints (bookOf w)
+
+  pub passed-done : firstNo (passQuestions script w (length elected)) ≡ none → (c : calls.PassCounts) (u : List ℕ) (l : List (List ℕ))
+      → c .moves ≡ after .moves → c .elected ≡ length (after .entries) → c .used ≡ after .used
+      → l ≡ sets elected 0 (map electedWords (after .entries)) → Stored (getD w 0 0) u (after .book) (beyond w)
+      → (accepted c ≡ done .answer) × ((u ≡ done .words) × (l ≡ done .elected))
+  unfolding passedListed
+  passed-done h c u l moves count used list st =
+      let few : length (after .entries) ≤ length elected = omega (arith, pass-count s script prints (bookOf w), pass-elected script w (length elected) h) in
+      (
+        rw (← moves, ← count, ← used),
+        (stored-words w u (after .book) st, list ∙ sets-written (map electedWords (after .entries)) elected (rw length-map few)),
+      )
+
+  pub pass-refused : (k : ℕ) → some k ≡ firstNo (passQuestions script w (length elected))
+      → (refused k ≡ passListed s script prints w elected .answer)
+      × ((w ≡ passListed s script prints w elected .words) × (elected ≡ passListed s script prints w elected .elected))
+  unfolding passListed decide
+  pass-refused k h = (rw (← h), (rw (← h), rw (← h)))
+
+  pub pass-accepted-as : none ≡ firstNo (passQuestions script w (length elected)) → (c : calls.PassCounts) (u : List ℕ) (l : List (List ℕ))
+      → (accepted c ≡ done .answer) × ((u ≡ done .words) × (l ≡ done .elected))
+      → (accepted c ≡ passListed s script prints w elected .answer)
+      × ((u ≡ passListed s script prints w elected .words) × (l ≡ passListed s script prints w elected .elected))
+  unfolding passListed decide
+  pass-accepted-as h c u l d = rw (← h) d
+
+------------------------------------------------------------------------
+-- The run
+
+choose : (a b : Bool) (p : Option PrintSegment) → a ≡ false → cond b p none ≡ cond (a || not b) none p
+choose a true p e = rw e
+choose a false p e = rw e
+
+-- what is taken of a path where stops are pending
+pub taken-segment : (pending : ℕ) (path : PrintPath) (trade : LastPrice) (x : Option PrintSegment) → (pending ≡ 0 → ⊥) → x ≡ take path trade .segment
+    → x ≡ cond (eqb pending 0 || not (path .«open»)) none (some (segmentOf path trade))
+unfolding take
+taken-segment pending path trade x h e = e ∙ choose (eqb pending 0) (path .«open») (some (segmentOf path trade)) (ne-eqb pending 0 h)
+
+module _ (s : Settings) (script : List ℕ) (trade : LastPrice) (w : List ℕ) (elected : List (List ℕ)) (path : PrintPath) where
+  abbrev run : RunListed
+  run = runListed s script trade w elected path
+
+  pub run-refused : (k : ℕ) → some k ≡ firstNo (passQuestions script w (length elected))
+      → (refused k ≡ run .answer) × ((path ≡ run .path) × ((w ≡ run .words) × (elected ≡ run .elected)))
+  unfolding runListed decide
+  run-refused k h = (rw (← h), (rw (← h), (rw (← h), rw (← h))))
+
+  module _ (h : none ≡ firstNo (passQuestions script w (length elected))) (next : Option PrintSegment)
+      (is : next ≡ cond (eqb (getD w 1 0) 0 || not (path .«open»)) none (some (segmentOf path trade))) where
+    abbrev idle : Bool
+    idle = eqb (pendingIn w) 0 || not (path .«open»)
+
+    next-is : next ≡ cond idle none (some (segmentOf path trade))
+    next-is = rw (← count-word w (pass-formed script w (length elected) (sym h))) is
+
+    pub run-idle : next ≡ none → (accepted (record { moves = 0; elected = 0; used = 0 }) ≡ run .answer)
+        × ((path ≡ run .path) × ((w ≡ run .words) × (elected ≡ run .elected)))
+    unfolding runListed runOverListed decide
+    run-idle e =
+        cases idle (λ q. (rw (← h, q), (rw (← h, q), (rw (← h, q), rw (← h, q)))))
+        (λ q. let f : some (segmentOf path trade) ≡ none = sym (rw q at next-is) ∙ e in let z : _≡_ {A = ℕ} 0 1 = cc in absurd (omega arith))
+
+    pub run-taken : (prints : PrintSegment) → next ≡ some prints → (c : calls.PassCounts) (u : List ℕ) (l : List (List ℕ)) (closing : PrintPath)
+        → (accepted c ≡ passedListed s script prints w elected .answer)
+        × ((u ≡ passedListed s script prints w elected .words) × (l ≡ passedListed s script prints w elected .elected))
+        → closing ≡ closed path
+        → (accepted c ≡ run .answer) × ((closing ≡ run .path) × ((u ≡ run .words) × (l ≡ run .elected)))
+    unfolding runListed runOverListed decide
+    run-taken prints e c u l closing d p =
+        cases idle
+        (λ q. let f : none ≡ some prints = sym (rw q at next-is) ∙ e in let z : _≡_ {A = ℕ} 0 1 = cc in absurd (omega arith))
+        (λ q.
+        let f : some (segmentOf path trade) ≡ some prints = sym (rw q at next-is) ∙ e in
+        let g : prints ≡ segmentOf path trade = cc in
+        (rw (← h, q, ← g) (d .0), (rw (← h, q) p, (rw (← h, q, ← g) (d .1 .0), rw (← h, q, ← g) (d .1 .1)))))

@@ -1,0 +1,5 @@
+pub mod Beginning
+pub mod Counting
+pub mod Split
+pub mod Walked
+pub mod Words

@@ -1,0 +1,47 @@
+-- `forecasting::walk_input` meets its contract: the words that are read are the store's and the prices.
+use native.Mathlib.Omega.{arith}
+use Rattle.forecasting.proofs.Walked.{walked-as}
+use Rattle.forecasting.proofs.Counting.{store-inside, prices-inside, store-read, prices-read}
+use Rattle.forecasting.proofs.Split.{prices-few}
+use borrow.Author.Needs.{needs}
+use Rattle.forecasting.proofs.walk_input.Statement.{statement}
+use Rattle.forecasting.proofs.walk_input.Tie as tie
+
+sub-at : tie.Need-sub-at
+sub-at c =
+    let b = c .before .before .before .before in
+    omega (arith, c .word-count .ensures, prices-few (b .args .bytes .now), b .pre .1)
+
+read-words-requires : tie.Need-read-words-requires
+read-words-requires c κs = store-inside _ _ (c .before .before .before .before .before .pre .0)
+
+read-words-requires-2 : tie.Need-read-words-requires-2
+read-words-requires-2 c κs =
+    let b = c .before .before .before .before .before in
+    prices-inside _ _ _ (b .word-count .ensures) (b .before .before .before .before .pre .1)
+
+returns : tie.Need-returns
+returns c =
+    let after = c .before .before .before in
+    let second = after .before .before .before .before .before .before .before in
+    let first = second .before .before .before .before in
+    let counted = first .before .before in
+    let start = counted .before .before .before .before in
+    let store = store-read (start .args .bytes .now) _ _ (start .pre .0) (first .read-words .ensures) in
+    let prices = prices-read (start .args .bytes .now) _ _ _ (counted .word-count .ensures) (start .pre .1) (second .read-words2 .ensures) in
+    walked-as (start .args .bytes .now) _ _ _ _ _ store prices (after .walk .ensures .0) (after .walk .ensures .1 .1)
+
+pub walk-input-spec : {M : Type 1} → statement M
+walk-input-spec =
+    tie.close
+    (tie.spec
+    (λ c κs. search needs)
+    sub-at
+    read-words-requires
+    read-words-requires-2
+    (λ c κs. search needs)
+    (λ c κs. search needs)
+    (λ c. search needs)
+    (λ c. search needs)
+    (λ c. search needs)
+    returns)
