@@ -5,13 +5,14 @@ use mathlib.Core.Path.{_≡_}
 use Rattle.error.specs.Answer.{Answer}
 use Rattle.book.specs.Calls.{Counts}
 use Rattle.book.specs.declared.LastPrice.the-variants as last
+use Rattle.book.specs.declared.Settings.{Settings}
 use Rattle.evaluation.specs.Listed.{walkListed}
 use Rattle.points.specs.Steps.{toPrice}
 use Rattle.forecasting.specs.Input.{wordsOf, storeIn, pricesIn, forecastSettings, forecastOf}
 
-pub walked-as : (bytes w p : List ℕ) (answer : Answer Counts) (l after : List (List ℕ)) → w ≡ storeIn (wordsOf bytes) → p ≡ pricesIn (wordsOf bytes)
-    → answer ≡ walkListed forecastSettings last.None (map toPrice p) w l .answer
-    → after ≡ walkListed forecastSettings last.None (map toPrice p) w l .elected
+pub walked-as : (s : Settings) (bytes w p : List ℕ) (answer : Answer Counts) (l after : List (List ℕ)) → s ≡ forecastSettings → w ≡ storeIn (wordsOf bytes) → p ≡ pricesIn (wordsOf bytes)
+    → answer ≡ walkListed s last.None (map toPrice p) w l .answer
+    → after ≡ walkListed s last.None (map toPrice p) w l .elected
     → (answer ≡ forecastOf bytes l .answer) × (after ≡ forecastOf bytes l .elected)
 unfolding forecastOf
-walked-as bytes w p answer l after e f h g = (rw (← e, ← f) h, rw (← e, ← f) g)
+walked-as s bytes w p answer l after q e f h g = (rw (← q, ← e, ← f) h, rw (← q, ← e, ← f) g)

@@ -29,7 +29,7 @@ returns c =
     let start = counted .before .before .before .before in
     let store = store-read (start .args .bytes .now) _ _ (start .pre .0) (first .read-words .ensures) in
     let prices = prices-read (start .args .bytes .now) _ _ _ (counted .word-count .ensures) (start .pre .1) (second .read-words2 .ensures) in
-    walked-as (start .args .bytes .now) _ _ _ _ _ store prices (after .walk .ensures .0) (after .walk .ensures .1 .1)
+    walked-as _ (start .args .bytes .now) _ _ _ _ _ (after .before .before .before .settings .ensures) store prices (after .walk .ensures .0) (after .walk .ensures .1 .1)
 
 pub walk-input-spec : {M : Type 1} → statement M
 walk-input-spec =
