@@ -99,13 +99,16 @@ module _ (s : Settings) (prints : PrintSegment) (w : List ℕ) (elected moved : 
         → l2 ≡ sets l1 0 (map (λ f. electedWords (electedEntry s (after .book) f)) (after .fills))
         → (accepted c ≡ outcome .answer) × ((u ≡ outcome .words) × ((l2 ≡ outcome .elected) × (m ≡ outcome .moved)))
     unfolding segmentListed decide countsOf
-    segment-done c u l1 l2 m moves count h1 hm st h2 =
+    segment-done c u l1 l2 m moves count h1 hm st h2 = (
+      rw (← h, ← moves, ← count),
+      (
+        rw (← h) (stored-words w u (after .book) st),
         (
-          rw (← h, ← moves, ← count),
-          (rw (← h) (stored-words w u (after .book) st),
-          (rw (← h) (completed-list s after elected l1 l2 segment-fills h1 h2),
-          rw (← h) (hm ∙ sets-written (map movedWords (after .moved)) moved (rw length-map (omega (arith, segment-moves (s .kill) prints (bookOf w), segment-moved)))))),
-        )
+          rw (← h) (completed-list s after elected l1 l2 segment-fills h1 h2),
+          rw (← h) (hm ∙ sets-written (map movedWords (after .moved)) moved (rw length-map (omega (arith, segment-moves (s .kill) prints (bookOf w), segment-moved)))),
+        ),
+      ),
+    )
 
 ------------------------------------------------------------------------
 -- Walk
@@ -145,8 +148,7 @@ module _ (s : Settings) (prev : LastPrice) (prices : List Price) (w : List ℕ) 
         → l2 ≡ sets l1 0 (map (λ f. electedWords (electedEntry s (walked .book) f)) (walked .fills))
         → (accepted c ≡ outcome-walk .answer) × ((u ≡ outcome-walk .words) × (l2 ≡ outcome-walk .elected))
     unfolding walkListed decide countsOf
-    walk-done c u l1 l2 moves count h1 st h2 =
-        (
-          rw (← h, ← moves, ← count),
-          (rw (← h) (stored-words w u (walked .book) st), rw (← h) (completed-list s walked elected l1 l2 walk-fills h1 h2)),
-        )
+    walk-done c u l1 l2 moves count h1 st h2 = (
+      rw (← h, ← moves, ← count),
+      (rw (← h) (stored-words w u (walked .book) st), rw (← h) (completed-list s walked elected l1 l2 walk-fills h1 h2)),
+    )

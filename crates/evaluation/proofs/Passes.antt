@@ -83,8 +83,7 @@ module _ (s : Settings) (script : List ℕ) (prints : PrintSegment) (w : List �
       → (accepted c ≡ done .answer) × ((u ≡ done .words) × (l ≡ done .elected))
   unfolding passedListed
   passed-done h c u l moves count used list st =
-      let few : length (after .entries) ≤ length elected = omega (arith, pass-count s script prints (bookOf w), pass-elected script w (length elected) h) in
-      (
+      let few : length (after .entries) ≤ length elected = omega (arith, pass-count s script prints (bookOf w), pass-elected script w (length elected) h) in (
         rw (← moves, ← count, ← used),
         (stored-words w u (after .book) st, list ∙ sets-written (map electedWords (after .entries)) elected (rw length-map few)),
       )

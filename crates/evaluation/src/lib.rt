@@ -12,9 +12,9 @@ use listing::complete;
 use passing::pass;
 use points::segment_listed;
 use points::walk_points;
+use print_path::NextSegment;
 use print_path::closed;
 use print_path::taken;
-use print_path::NextSegment;
 use script::script_formed;
 ghost use mathlib.Core.Bool.{cond, not, _||_};
 ghost use mathlib.Core.List.{map};
@@ -178,7 +178,13 @@ fn ask_pass(s: &[u64], script: &[u64], elected: usize) -> Verdict
 }
 
 // A pass over a store that its questions let through, from a segment on.
-fn pass_over(s: &mut [u64], settings: Settings, script: &[u64], prints: PrintSegment, elected: &mut [[u64; 13]]) -> PassCounts
+fn pass_over(
+    s: &mut [u64],
+    settings: Settings,
+    script: &[u64],
+    prints: PrintSegment,
+    elected: &mut [[u64; 13]],
+) -> PassCounts
     requires { ⌜ firstNo (passQuestions (now script) (now s) (length (now elected))) ≡ none ⌝ }
     ensures { λ r. ⌜ accepted (toldPassCounts r) ≡ passedListed settings (now (script .entry)) prints (now (s .entry)) (now (elected .entry)) .answer ⌝ }
     ensures { λ _. ⌜ now (s .exit) ≡ passedListed settings (now (script .entry)) prints (now (s .entry)) (now (elected .entry)) .words ⌝ }

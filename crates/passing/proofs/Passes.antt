@@ -62,8 +62,8 @@ module _ (left : ℕ) (settings : Settings) (script : List ℕ) {n : ℕ} {w : L
       → Passes left settings script n w w l l at words head tail moves end used
   unfolding toldNext
   passes-none told e tells = passes-ended (λ b r q st queued.
-    let z : q ≡ [] = firstOf-none q (sym (tells q queued) ∙ ap toldNext e) in
-    rw z (passFrom-done settings left script b))
+      let z : q ≡ [] = firstOf-none q (sym (tells q queued) ∙ ap toldNext e) in
+      rw z (passFrom-done settings left script b))
 
   -- the store is empty
   pub passes-empty : getD w 1 0 ≡ 0 → Passes left settings script n w w l l at words head tail moves end used

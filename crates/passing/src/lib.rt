@@ -170,5 +170,16 @@ pub fn pass(
     let mut queue = [[0u64; 4]; 701];
     queue[0] = segment_words(prints);
     let count = s[1];
-    pass_from(s, n, settings, script, &mut queue[..], 0, 1, list, 0, count + 1)
+    pass_from(
+        s,
+        n,
+        settings,
+        script,
+        &mut queue[..],
+        0,
+        1,
+        list,
+        0,
+        count + 1,
+    )
 }

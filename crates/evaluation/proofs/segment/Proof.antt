@@ -50,8 +50,7 @@ complete-requires c κs =
     let g = a .before .before .before .args in
     let w = g .s .now in
     let h = all-yes _ _ (e .enum-told .given .1) (a .ask-segment .ensures) in
-    let d = o .segment-listed .ensures (bookOf w) (beyond w) (wellFormed-stored w (segment-formed (g .settings) (g .prints) w (g .elected .now) (g .moved .now) h)) in
-    (
+    let d = o .segment-listed .ensures (bookOf w) (beyond w) (wellFormed-stored w (segment-formed (g .settings) (g .prints) w (g .elected .now) (g .moved .now) h)) in (
       (segment (g .settings .kill) (g .prints) (bookOf w) .book, beyond w, d .4),
       fills-within _ (segment (g .settings .kill) (g .prints) (bookOf w) .fills) (g .elected .now) _ (segment-fills (g .settings) (g .prints) w (g .elected .now) (g .moved .now) h) (d .1) (d .2),
     )

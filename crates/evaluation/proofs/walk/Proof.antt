@@ -58,8 +58,7 @@ complete-requires c κs =
     let w = g .s .now in
     let ps = map toPrice (g .prices .now) in
     let h = all-yes _ _ (e .enum-told .given .1) (a .ask-walk .ensures) in
-    let d = o .walk-points .ensures (bookOf w) (beyond w) (wellFormed-stored w (walk-formed (g .settings) (g .prev) ps w (g .elected .now) h)) in
-    (
+    let d = o .walk-points .ensures (bookOf w) (beyond w) (wellFormed-stored w (walk-formed (g .settings) (g .prev) ps w (g .elected .now) h)) in (
       (walk (g .settings .kill) (g .prev) ps (bookOf w) .book, beyond w, d .3),
       fills-within _ (walk (g .settings .kill) (g .prev) ps (bookOf w) .fills) (g .elected .now) _ (walk-fills (g .settings) (g .prev) ps w (g .elected .now) h) (d .1) (d .2),
     )
