@@ -1,0 +1,27 @@
+-- `store_tests::words::written` meets its contract. The invariant: i is at most the length. The measure is what is left of it.
+use Prim.Native.Nat.{_≤_, _-_}
+use lib.ListN.{length}
+use borrow.Author.Needs.{needs}
+use Rattle.store_tests.proofs.words.written.Statement.{statement}
+use Rattle.store_tests.proofs.words.written.Tie as tie
+
+abbrev Inv-loop : tie.InvT-loop
+Inv-loop s count₀ i₀ count i = i ≤ length s
+
+abbrev μ-loop : tie.MeasureT-loop
+μ-loop s count₀ i₀ count i = length s - i
+
+pub written-spec : {M : Type 1} → statement M
+written-spec =
+    tie.close
+    (tie.spec
+    Inv-loop
+    μ-loop
+    (λ c. search needs)
+    (λ c. search needs)
+    (λ c. search needs)
+    (λ c κs. search needs)
+    (λ c. search needs)
+    (λ c. search needs)
+    (λ c. search needs)
+    (λ c. search needs))
