@@ -432,10 +432,10 @@ pub fn clear(s: &mut [u64], path: PrintPath) -> Cleared
     let n = s[0];
     let tick = s[3];
     lay_out(s, n, tick);
-    let after = closed(path);
+    let reset = closed(path);
     Cleared {
         answer: LayoutAnswer::Ok,
-        path: after,
+        path: reset,
     }
 }
 
@@ -453,5 +453,6 @@ pub fn pending_stop_quantity(s: &[u64]) -> QuantityAnswer
         return QuantityAnswer::Err(Refusal::StoreNotWellFormed);
     }
     let n = s[0];
-    QuantityAnswer::Ok(pending_quantity(s, n))
+    let sums = pending_quantity(s, n);
+    QuantityAnswer::Ok(sums)
 }
