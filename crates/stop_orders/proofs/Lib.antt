@@ -1,0 +1,5 @@
+pub mod Claims
+pub mod Lent
+pub mod Plain
+pub mod Types
+pub mod Walk
