@@ -1,5 +1,12 @@
 pub mod Claims
+pub mod Constants
+pub mod Cut
+pub mod CutSegment
 pub mod Lent
+pub mod Lets
+pub mod Locals
 pub mod Plain
+pub mod Reading
 pub mod Types
-pub mod Walk
+pub mod Walking
+pub mod Written

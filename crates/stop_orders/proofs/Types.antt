@@ -13,6 +13,16 @@ use Rattle.book.proofs.LastPrice as last
 use Rattle.book.proofs.LastPrice.Laws as last′
 use Rattle.book.proofs.PrintPath as path
 use Rattle.book.proofs.PrintPath.Laws as path′
+use Rattle.book.proofs.Moved as moved
+use Rattle.book.proofs.Moved.Laws as moved′
+use Rattle.book.proofs.PrintSegment as prints
+use Rattle.book.proofs.PrintSegment.Laws as prints′
+use Rattle.book.proofs.Settings as settings
+use Rattle.book.proofs.Settings.Laws as settings′
+use Rattle.book.proofs.Elected as elected
+use Rattle.book.proofs.Elected.Laws as elected′
+use Rattle.evaluation.proofs.EvaluationAnswer as evaluated
+use Rattle.evaluation.proofs.EvaluationAnswer.Laws as evaluated′
 use Rattle.pricelevel.proofs.Id as id
 use Rattle.pricelevel.proofs.Id.Laws as id′
 use Rattle.pricelevel.proofs.Price as price
@@ -28,7 +38,13 @@ use Rattle.stop_terms.proofs.StopTerms as terms
 use Rattle.stop_terms.proofs.StopTerms.Laws as terms′
 use Rattle.store_words.proofs.LayoutAnswer as layout
 use Rattle.store_words.proofs.LayoutAnswer.Laws as layout′
-use Rattle.stop_orders.proofs.Plain.{Plain, Stands, struct, enum}
+use Rattle.stop_orders.specs.declared.Run.{Run}
+use Rattle.stop_orders.specs.declared.SegmentRun.{SegmentRun}
+use Rattle.stop_orders.proofs.Run as run
+use Rattle.stop_orders.proofs.Run.Laws as run′
+use Rattle.stop_orders.proofs.SegmentRun as segment-run
+use Rattle.stop_orders.proofs.SegmentRun.Laws as segment-run′
+use Rattle.stop_orders.proofs.Plain.{Plain, Stands, word, struct, enum}
 
 abbrev pub PathOf : Plain
 PathOf = struct path.the-type path′.the-laws path′.the-plain (λ d l. refl)
@@ -66,6 +82,27 @@ AdmittedOf = enum admitted.the-type admitted′.the-laws admitted′.the-plain t
 abbrev pub AdmissionOf : Plain
 AdmissionOf = struct admission.the-type admission′.the-laws admission′.the-plain (λ d l. refl)
 
+abbrev pub SettingsOf : Plain
+SettingsOf = struct settings.the-type settings′.the-laws settings′.the-plain (λ d l. refl)
+
+abbrev pub ElectedOf : Plain
+ElectedOf = struct elected.the-type elected′.the-laws elected′.the-plain (λ d l. refl)
+
+abbrev pub EvaluatedOf : Plain
+EvaluatedOf = enum evaluated.the-type evaluated′.the-laws evaluated′.the-plain tt (λ d l. refl)
+
+abbrev pub RunOf : Plain
+RunOf = struct run.the-type run′.the-laws run′.the-plain (λ d l. refl)
+
+abbrev pub MovedOf : Plain
+MovedOf = struct moved.the-type moved′.the-laws moved′.the-plain (λ d l. refl)
+
+abbrev pub PrintsOf : Plain
+PrintsOf = struct prints.the-type prints′.the-laws prints′.the-plain (λ d l. refl)
+
+abbrev pub SegmentRunOf : Plain
+SegmentRunOf = struct segment-run.the-type segment-run′.the-laws segment-run′.the-plain (λ d l. refl)
+
 -- ---- the fields of an answer with the path after it
 pub taken-parts : (r : TakenSegment) → Stands TakenOf r → Stands NextOf (r .segment) × Stands PathOf (r .path)
 taken-parts r is = (owed taken.the-type taken′.the-laws r _ is .0, owed taken.the-type taken′.the-laws r _ is .1 .0)
@@ -75,3 +112,15 @@ cleared-parts r is = (owed cleared.the-type cleared′.the-laws r _ is .0, owed 
 
 pub admission-parts : (r : Admission) → Stands AdmissionOf r → Stands AdmittedOf (r .answer) × Stands PathOf (r .path)
 admission-parts r is = (owed admission.the-type admission′.the-laws r _ is .0, owed admission.the-type admission′.the-laws r _ is .1 .0)
+
+pub run-parts : (r : Run) → Stands RunOf r → Stands EvaluatedOf (r .answer) × Stands word (r .count)
+run-parts r is = (owed run.the-type run′.the-laws r _ is .0, owed run.the-type run′.the-laws r _ is .1 .0)
+
+pub segment-run-parts : (r : SegmentRun) → Stands SegmentRunOf r → Stands EvaluatedOf (r .answer) × (Stands word (r .elected) × Stands word (r .moved))
+segment-run-parts r is = (
+  owed segment-run.the-type segment-run′.the-laws r _ is .0,
+  (
+    owed segment-run.the-type segment-run′.the-laws r _ is .1 .0,
+    owed segment-run.the-type segment-run′.the-laws r _ is .1 .1 .0,
+  ),
+)

@@ -1,21 +1,42 @@
 // The calls on lent state, from orderbook-rs's stop_orders.rs: each stores what a call by value answers.
 use admission::AdmissionAnswer;
+use book::Elected;
 use book::LastPrice;
+use book::Moved;
 use book::PrintPath;
+use book::PrintSegment;
+use book::Settings;
+use evaluation::EvaluationAnswer;
 use pricelevel::Id;
+use pricelevel::IdKind;
 use pricelevel::Price;
 use pricelevel::Quantity;
+use pricelevel::Seq;
 use print_path::NextSegment;
 use print_path::closed;
 use print_path::recorded;
 use print_path::taken;
+use stop_protection::Limit;
+use stop_protection::LimitPrice;
 use stop_terms::StopTerms;
 use store_words::LayoutAnswer;
+use store_words::kind_of;
+use store_words::side_from;
+ghost use Prim.Native.Nat.{_<_, _≤_, _*_, min};
+ghost use mathlib.Core.List.{List, [], map};
 ghost use mathlib.Core.Path.{_≡_};
+ghost use lib.ListN.{length, getD, set, take as firsts};
 ghost use Rattle.admission.specs.Answers.{toldAdmission};
+ghost use Rattle.book.specs.Calls.{written, segmentCall, walkCall};
 ghost use Rattle.book.specs.Path.{recorded, closed, take};
 ghost use Rattle.book.specs.Store.{clear, admit};
+ghost use Rattle.book.specs.Words.{mostRecords};
+ghost use Rattle.book.specs.declared.Elected.{Elected};
+ghost use Rattle.book.specs.declared.Moved.{Moved};
+ghost use Rattle.evaluation.specs.Answers.{toldCounts};
+ghost use Rattle.points.specs.Steps.{toPrice};
 ghost use Rattle.print_path.specs.Segments.{toldNext};
+ghost use Rattle.stop_orders.specs.Records.{limitFrom, electedOf, movedOf, electedCount, movedCount};
 ghost use Rattle.store_words.specs.Empty.{toldLayout};
 
 // ---------------------------------------------------------------------
@@ -78,4 +99,248 @@ pub fn clear(s: &mut [u64], path: &mut PrintPath) -> LayoutAnswer
     let cleared = admission::clear(s, *path);
     *path = cleared.path;
     cleared.answer
+}
+
+// ---------------------------------------------------------------------
+// The lent lists of records
+
+// A limit, by whether there is one and its price.
+fn limit_from(present: u64, price: u64) -> Limit
+    ensures { λ r. ⌜ r ≡ limitFrom present price ⌝ }
+{
+    match present {
+        0 => Limit::None,
+        _ => Limit::At(LimitPrice(price)),
+    }
+}
+
+// The elected entry whose words lie at a place.
+fn elected_at(words: &[[u64; 13]], at: usize) -> Elected
+    requires { ⌜ at < length (now words) ⌝ }
+    ensures { λ r. ⌜ r ≡ electedOf (getD (now (words .entry)) at []) ⌝ }
+{
+    let e = words[at];
+    Elected {
+        id: Id {
+            kind: kind_of(e[0]),
+            high: e[1],
+            low: e[2],
+        },
+        side: side_from(e[3]),
+        stop: Price(e[4]),
+        quantity: Quantity(e[5]),
+        seq: Seq(e[6]),
+        trigger: Price(e[7]),
+        limit: limit_from(e[8], e[9]),
+        child: Id {
+            kind: IdKind::Uuid,
+            high: e[10],
+            low: e[11],
+        },
+        pending: 0 < e[12],
+    }
+}
+
+// The moved entry whose words lie at a place.
+fn moved_at(words: &[[u64; 4]], at: usize) -> Moved
+    requires { ⌜ at < length (now words) ⌝ }
+    ensures { λ r. ⌜ r ≡ movedOf (getD (now (words .entry)) at []) ⌝ }
+{
+    let e = words[at];
+    Moved {
+        id: Id {
+            kind: kind_of(e[0]),
+            high: e[1],
+            low: e[2],
+        },
+        stop: Price(e[3]),
+    }
+}
+
+// Stores an elected entry at a place of a lent list; the others stay.
+fn place_elected(list: &mut [Elected], at: usize, entry: Elected)
+    requires { ⌜ at < length (now list) ⌝ }
+    ensures { λ _. ⌜ now (list .exit) ≡ set (now (list .entry)) at entry ⌝ }
+{
+    list[at] = entry;
+}
+
+// Stores a moved entry at a place of a lent list; the others stay.
+fn place_moved(list: &mut [Moved], at: usize, entry: Moved)
+    requires { ⌜ at < length (now list) ⌝ }
+    ensures { λ _. ⌜ now (list .exit) ≡ set (now (list .entry)) at entry ⌝ }
+{
+    list[at] = entry;
+}
+
+// Writes the first n elected entries of a lent list from their words; later ones stay.
+fn fill_elected(list: &mut [Elected], words: &[[u64; 13]], n: usize)
+    requires { ⌜ (n ≤ length (now list)) × (n ≤ length (now words)) ⌝ }
+    ensures { λ _. ⌜ now (list .exit) ≡ written (map electedOf (firsts n (now (words .entry)))) (now (list .entry)) ⌝ }
+{
+    let mut i = 0;
+    while i < n {
+        list[i] = elected_at(words, i);
+        i += 1;
+    }
+}
+
+// Writes the first n moved entries of a lent list from their words; later ones stay.
+fn fill_moved(list: &mut [Moved], words: &[[u64; 4]], n: usize)
+    requires { ⌜ (n ≤ length (now list)) × (n ≤ length (now words)) ⌝ }
+    ensures { λ _. ⌜ now (list .exit) ≡ written (map movedOf (firsts n (now (words .entry)))) (now (list .entry)) ⌝ }
+{
+    let mut i = 0;
+    while i < n {
+        list[i] = moved_at(words, i);
+        i += 1;
+    }
+}
+
+// ---------------------------------------------------------------------
+// The calls that evaluate, over lent lists of records
+
+fn least(a: usize, b: usize) -> usize
+    ensures { λ r. ⌜ r ≡ min a b ⌝ }
+{
+    if a < b { a } else { b }
+}
+
+// How many entries an evaluation elected; none where it was refused.
+fn elected_count(answer: EvaluationAnswer) -> usize
+    ensures { λ r. ⌜ r ≡ electedCount (toldCounts answer) ⌝ }
+{
+    match answer {
+        EvaluationAnswer::Ok(c) => c.elected as usize,
+        EvaluationAnswer::Err(_) => 0,
+    }
+}
+
+// How many stops an evaluation moved; none where it was refused.
+fn moved_count(answer: EvaluationAnswer) -> usize
+    ensures { λ r. ⌜ r ≡ movedCount (toldCounts answer) ⌝ }
+{
+    match answer {
+        EvaluationAnswer::Ok(c) => c.moves as usize,
+        EvaluationAnswer::Err(_) => 0,
+    }
+}
+
+// A segment's answer, and how many entries it put on its lists.
+struct SegmentRun {
+    answer: EvaluationAnswer,
+    elected: usize,
+    moved: usize,
+}
+
+// A segment for lists with this room. The words of what it elects and moves are written from the start.
+fn segment_words(
+    s: &mut [u64],
+    settings: Settings,
+    prints: PrintSegment,
+    elected: &mut [[u64; 13]],
+    elected_room: usize,
+    moved: &mut [[u64; 4]],
+    moved_room: usize,
+) -> SegmentRun
+    requires { ⌜ (length (now elected) ≡ mostRecords) × (length (now moved) ≡ 2 * mostRecords) ⌝ }
+    ensures { λ r. ⌜ ((r .elected ≤ «elected_room») × (r .elected ≤ mostRecords)) × ((r .moved ≤ «moved_room») × (r .moved ≤ 2 * mostRecords)) ⌝ }
+    ensures { λ r. ⌜ ((e : List Elected) (m : List Moved) → length e ≡ «elected_room» → length m ≡ «moved_room»
+        → toldCounts (r .answer) ≡ segmentCall settings prints (now (s .entry)) e m .answer) ⌝ }
+    ensures { λ _. ⌜ ((e : List Elected) (m : List Moved) → length e ≡ «elected_room» → length m ≡ «moved_room»
+        → now (s .exit) ≡ segmentCall settings prints (now (s .entry)) e m .words) ⌝ }
+    ensures { λ r. ⌜ ((e : List Elected) (m : List Moved) → length e ≡ «elected_room» → length m ≡ «moved_room»
+        → written (map electedOf (firsts (r .elected) (now (elected .exit)))) e ≡ segmentCall settings prints (now (s .entry)) e m .elected) ⌝ }
+    ensures { λ r. ⌜ ((e : List Elected) (m : List Moved) → length e ≡ «elected_room» → length m ≡ «moved_room»
+        → written (map movedOf (firsts (r .moved) (now (moved .exit)))) m ≡ segmentCall settings prints (now (s .entry)) e m .moved) ⌝ }
+{
+    let i = least(elected_room, elected.len());
+    let j = least(moved_room, moved.len());
+    let answer = evaluation::segment(s, settings, prints, &mut elected[..i], &mut moved[..j]);
+    SegmentRun {
+        answer: answer,
+        elected: elected_count(answer),
+        moved: moved_count(answer),
+    }
+}
+
+// A segment: a point at its first print, and one at its last if that differs. The elected and the moved are written from the start of
+// the lists; later entries stay. Refused: the store is not well formed (1); a list is shorter than the pending count asks (14).
+pub fn segment(
+    s: &mut [u64],
+    settings: Settings,
+    prints: PrintSegment,
+    elected: &mut [Elected],
+    moved: &mut [Moved],
+) -> EvaluationAnswer
+    ensures { λ r. ⌜ toldCounts r ≡ segmentCall settings prints (now (s .entry)) (now (elected .entry)) (now (moved .entry)) .answer ⌝ }
+    ensures { λ _. ⌜ now (s .exit) ≡ segmentCall settings prints (now (s .entry)) (now (elected .entry)) (now (moved .entry)) .words ⌝ }
+    ensures { λ _. ⌜ now (elected .exit) ≡ segmentCall settings prints (now (s .entry)) (now (elected .entry)) (now (moved .entry)) .elected ⌝ }
+    ensures { λ _. ⌜ now (moved .exit) ≡ segmentCall settings prints (now (s .entry)) (now (elected .entry)) (now (moved .entry)) .moved ⌝ }
+{
+    let mut fills = [[0u64; 13]; 700];
+    let mut moves = [[0u64; 4]; 1400];
+    let run = segment_words(
+        s,
+        settings,
+        prints,
+        &mut fills,
+        elected.len(),
+        &mut moves,
+        moved.len(),
+    );
+    fill_elected(elected, &fills, run.elected);
+    fill_moved(moved, &moves, run.moved);
+    run.answer
+}
+
+// An evaluation's answer, and how many entries it put on its list.
+struct Run {
+    answer: EvaluationAnswer,
+    count: usize,
+}
+
+// A walk for a list with this room. The words of what it elects are written from the start.
+fn walk_words(
+    s: &mut [u64],
+    settings: Settings,
+    prev: LastPrice,
+    prices: &[u64],
+    words: &mut [[u64; 13]],
+    room: usize,
+) -> Run
+    requires { ⌜ length (now words) ≡ mostRecords ⌝ }
+    ensures { λ r. ⌜ (r .count ≤ room) × (r .count ≤ mostRecords) ⌝ }
+    ensures { λ r. ⌜ ((list : List Elected) → length list ≡ room
+        → toldCounts (r .answer) ≡ walkCall settings prev (map toPrice (now (prices .entry))) (now (s .entry)) list .answer) ⌝ }
+    ensures { λ _. ⌜ ((list : List Elected) → length list ≡ room
+        → now (s .exit) ≡ walkCall settings prev (map toPrice (now (prices .entry))) (now (s .entry)) list .words) ⌝ }
+    ensures { λ r. ⌜ ((list : List Elected) → length list ≡ room → written (map electedOf (firsts (r .count) (now (words .exit)))) list
+        ≡ walkCall settings prev (map toPrice (now (prices .entry))) (now (s .entry)) list .elected) ⌝ }
+{
+    let k = least(room, words.len());
+    let answer = evaluation::walk(s, settings, prev, prices, &mut words[..k]);
+    Run {
+        answer: answer,
+        count: elected_count(answer),
+    }
+}
+
+// A walk: a point at each price in turn. The elected are written from the start of the list; later entries stay. Refused: the store is not
+// well formed (1); the list is shorter than the pending count (14); not 1 to 4,096 prices (16).
+pub fn walk(
+    s: &mut [u64],
+    settings: Settings,
+    prev: LastPrice,
+    prices: &[u64],
+    elected: &mut [Elected],
+) -> EvaluationAnswer
+    ensures { λ r. ⌜ toldCounts r ≡ walkCall settings prev (map toPrice (now (prices .entry))) (now (s .entry)) (now (elected .entry)) .answer ⌝ }
+    ensures { λ _. ⌜ now (s .exit) ≡ walkCall settings prev (map toPrice (now (prices .entry))) (now (s .entry)) (now (elected .entry)) .words ⌝ }
+    ensures { λ _. ⌜ now (elected .exit) ≡ walkCall settings prev (map toPrice (now (prices .entry))) (now (s .entry)) (now (elected .entry)) .elected ⌝ }
+{
+    let mut words = [[0u64; 13]; 700];
+    let run = walk_words(s, settings, prev, prices, &mut words, elected.len());
+    fill_elected(elected, &words, run.count);
+    run.answer
 }

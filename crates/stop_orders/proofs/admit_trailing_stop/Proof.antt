@@ -5,15 +5,15 @@ use Prim.Native.Nat.{ℕ}
 use mathlib.Core.Bool.{Bool}
 use lib.ListN.{length}
 use mathlib.Core.List.{[], _∷_, List}
-use Rattle.stop_orders.proofs.Walk.{URA, fullShare, named, Val, vbool, vptr, SProp, ent, emp, id⊢, via, fst∗, Lft, Share, GName, ftrue, fat}
-use Rattle.stop_orders.proofs.Walk.{flft, fobs, Memory, Routine, Heap, Calls, Loops, WpFn, Atoms, Fun, givenOf, tables, tablesOf, Given, ‵}
-use Rattle.stop_orders.proofs.Walk.{raw, _⊛_, ⋆, _$_, _∵_, !, qed, by, move, keep, drop, use2, split, join, rewrite, fsplit, fsplit3, fjoin}
-use Rattle.stop_orders.proofs.Walk.{feqL, suffices, frame, done, look, look-raw, init, store-raw, forget, stop, hop, fld, from, load, addr}
-use Rattle.stop_orders.proofs.Walk.{of-opd, and-then, no-more, assigns, land, returns, enter, alloc1, alloc0, params1, pass1, pass0, free1}
-use Rattle.stop_orders.proofs.Walk.{free0, agg, whole, sub, look-in, FmC, owns, RefT, MutRef, ptr-vals, mut-tells, sliceVal, MutSlice, Room}
-use Rattle.stop_orders.proofs.Walk.{finally, slice-vals, mut-slice-tells, u64, plain, nothing, onEntry, tripleOf, Contract, Triple, calls-at}
-use Rattle.stop_orders.proofs.Walk.{lasts, entered, cited, Stays, gave-ref, gave-slice, walkOf, AllGo, goes-gave-ref, goes-gave-slice, Walks}
-use Rattle.stop_orders.proofs.Walk.{ends-at, walked}
+use Rattle.stop_orders.proofs.Walking.{URA, fullShare, named, Val, vbool, vptr, SProp, ent, emp, id⊢, via, fst∗, Lft, Share, GName, ftrue, fat}
+use Rattle.stop_orders.proofs.Walking.{flft, fobs, Memory, Routine, Heap, Calls, Loops, WpFn, Atoms, Fun, givenOf, tables, tablesOf, Given, ‵}
+use Rattle.stop_orders.proofs.Walking.{raw, _⊛_, ⋆, _$_, _∵_, !, qed, by, move, keep, drop, use2, split, join, rewrite, fsplit, fsplit3, fjoin}
+use Rattle.stop_orders.proofs.Walking.{feqL, suffices, frame, done, look, look-raw, init, store-raw, forget, stop, hop, fld, from, load, addr}
+use Rattle.stop_orders.proofs.Walking.{of-opd, and-then, no-more, assigns, land, returns, enter, alloc1, alloc0, params1, pass1, pass0, free1}
+use Rattle.stop_orders.proofs.Walking.{free0, agg, whole, sub, look-in, FmC, owns, RefT, MutRef, ptr-vals, mut-tells, sliceVal, MutSlice, Room}
+use Rattle.stop_orders.proofs.Walking.{finally, slice-vals, mut-slice-tells, u64, plain, nothing, onEntry, tripleOf, Contract, Triple, calls-at}
+use Rattle.stop_orders.proofs.Walking.{lasts, entered, cited, Stays, gave-ref, gave-slice, walkOf, AllGo, goes-gave-ref, goes-gave-slice, Walks}
+use Rattle.stop_orders.proofs.Walking.{ends-at, walked}
 use Rattle.admission.specs.Answers.{toldAdmission}
 use Rattle.admission.specs.declared.Admission.{Admission}
 use Rattle.book.specs.declared.PrintPath.{PrintPath}

@@ -4,15 +4,15 @@ use mathlib.Core.Path.{_≡_, refl}
 use Prim.Native.Nat.{ℕ}
 use lib.ListN.{length}
 use mathlib.Core.List.{[], _∷_, List}
-use Rattle.stop_orders.proofs.Walk.{URA, fullShare, named, Val, vptr, SProp, ent, emp, id⊢, via, fst∗, Lft, Share, GName, ftrue, fat, flft}
-use Rattle.stop_orders.proofs.Walk.{fobs, Memory, Routine, Heap, Calls, Loops, WpFn, Atoms, Fun, givenOf, tables, tablesOf, Given, ‵, raw}
-use Rattle.stop_orders.proofs.Walk.{_⊛_, ⋆, _$_, _∵_, !, qed, by, move, keep, drop, use2, split, join, rewrite, fsplit, fsplit3, fjoin, feqL}
-use Rattle.stop_orders.proofs.Walk.{suffices, frame, done, look, look-raw, init, store-raw, forget, stop, hop, fld, from, load, addr, of-opd}
-use Rattle.stop_orders.proofs.Walk.{and-then, no-more, assigns, land, returns, enter, alloc1, alloc0, params1, pass1, pass0, free1, free0}
-use Rattle.stop_orders.proofs.Walk.{agg, whole, sub, look-in, FmC, owns, RefT, MutRef, ptr-vals, mut-tells, sliceVal, MutSlice, Room}
-use Rattle.stop_orders.proofs.Walk.{finally, slice-vals, mut-slice-tells, u64, plain, nothing, onEntry, tripleOf, Contract, Triple, calls-at}
-use Rattle.stop_orders.proofs.Walk.{lasts, entered, cited, Stays, gave-ref, gave-slice, walkOf, AllGo, goes-gave-ref, goes-gave-slice, Walks}
-use Rattle.stop_orders.proofs.Walk.{ends-at, walked}
+use Rattle.stop_orders.proofs.Walking.{URA, fullShare, named, Val, vptr, SProp, ent, emp, id⊢, via, fst∗, Lft, Share, GName, ftrue, fat, flft}
+use Rattle.stop_orders.proofs.Walking.{fobs, Memory, Routine, Heap, Calls, Loops, WpFn, Atoms, Fun, givenOf, tables, tablesOf, Given, ‵, raw}
+use Rattle.stop_orders.proofs.Walking.{_⊛_, ⋆, _$_, _∵_, !, qed, by, move, keep, drop, use2, split, join, rewrite, fsplit, fsplit3, fjoin, feqL}
+use Rattle.stop_orders.proofs.Walking.{suffices, frame, done, look, look-raw, init, store-raw, forget, stop, hop, fld, from, load, addr, of-opd}
+use Rattle.stop_orders.proofs.Walking.{and-then, no-more, assigns, land, returns, enter, alloc1, alloc0, params1, pass1, pass0, free1, free0}
+use Rattle.stop_orders.proofs.Walking.{agg, whole, sub, look-in, FmC, owns, RefT, MutRef, ptr-vals, mut-tells, sliceVal, MutSlice, Room}
+use Rattle.stop_orders.proofs.Walking.{finally, slice-vals, mut-slice-tells, u64, plain, nothing, onEntry, tripleOf, Contract, Triple, calls-at}
+use Rattle.stop_orders.proofs.Walking.{lasts, entered, cited, Stays, gave-ref, gave-slice, walkOf, AllGo, goes-gave-ref, goes-gave-slice, Walks}
+use Rattle.stop_orders.proofs.Walking.{ends-at, walked}
 use Rattle.admission.specs.declared.Cleared.{Cleared}
 use Rattle.book.specs.declared.PrintPath.{PrintPath}
 use Rattle.book.specs.Store.{clear}

@@ -3,14 +3,14 @@
 use mathlib.Core.Path.{_≡_, refl}
 use Prim.Native.Nat.{ℕ}
 use mathlib.Core.List.{[], _∷_, List}
-use Rattle.stop_orders.proofs.Walk.{URA, fullShare, named, w64, Val, vunit, vint, vptr, SProp, ent, emp, id⊢, via, fst∗, Lft, Share, GName}
-use Rattle.stop_orders.proofs.Walk.{ftrue, fat, flft, fobs, Memory, Routine, Heap, Calls, Loops, WpFn, Atoms, Fun, givenOf, tables, tablesOf}
-use Rattle.stop_orders.proofs.Walk.{Given, ‵, raw, _⊛_, ⋆, _$_, _∵_, !, qed, by, move, keep, drop, use0, split, join, rewrite, fsplit}
-use Rattle.stop_orders.proofs.Walk.{fsplit3, fjoin, feqI, suffices, frame, done, look, look-raw, init, store-raw, forget, stop, hop, from}
-use Rattle.stop_orders.proofs.Walk.{load, unit-lit, of-opd, and-then, no-more, assigns, land, returns, enter, alloc1, alloc0, params1, pass1}
-use Rattle.stop_orders.proofs.Walk.{pass0, free1, free0, FmC, owns, RefT, MutRef, ptr-vals, mut-tells, plain, nothing, onEntry, tripleOf}
-use Rattle.stop_orders.proofs.Walk.{Contract, Triple, calls-at, lasts, entered, cited, says, Stays, gave-ref, walkOf, AllGo, goes-gave-ref}
-use Rattle.stop_orders.proofs.Walk.{Walks, ends-at, walked}
+use Rattle.stop_orders.proofs.Walking.{URA, fullShare, named, w64, Val, vunit, vint, vptr, SProp, ent, emp, id⊢, via, fst∗, Lft, Share, GName}
+use Rattle.stop_orders.proofs.Walking.{ftrue, fat, flft, fobs, Memory, Routine, Heap, Calls, Loops, WpFn, Atoms, Fun, givenOf, tables, tablesOf}
+use Rattle.stop_orders.proofs.Walking.{Given, ‵, raw, _⊛_, ⋆, _$_, _∵_, !, qed, by, move, keep, drop, use0, split, join, rewrite, fsplit}
+use Rattle.stop_orders.proofs.Walking.{fsplit3, fjoin, feqI, suffices, frame, done, look, look-raw, init, store-raw, forget, stop, hop, from}
+use Rattle.stop_orders.proofs.Walking.{load, unit-lit, of-opd, and-then, no-more, assigns, land, returns, enter, alloc1, alloc0, params1, pass1}
+use Rattle.stop_orders.proofs.Walking.{pass0, free1, free0, FmC, owns, RefT, MutRef, ptr-vals, mut-tells, plain, nothing, onEntry, tripleOf}
+use Rattle.stop_orders.proofs.Walking.{Contract, Triple, calls-at, lasts, entered, cited, says, Stays, gave-ref, walkOf, AllGo, goes-gave-ref}
+use Rattle.stop_orders.proofs.Walking.{Walks, ends-at, walked}
 use Rattle.book.specs.declared.LastPrice.{LastPrice}
 use Rattle.book.specs.declared.PrintPath.{PrintPath}
 use Rattle.book.specs.Path.{recorded}

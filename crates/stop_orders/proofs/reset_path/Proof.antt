@@ -3,14 +3,14 @@
 use mathlib.Core.Path.{_≡_, refl}
 use Prim.Native.Nat.{ℕ}
 use mathlib.Core.List.{[], _∷_, List}
-use Rattle.stop_orders.proofs.Walk.{URA, fullShare, named, Val, vunit, vptr, SProp, ent, emp, id⊢, via, fst∗, Lft, Share, GName, ftrue, fat}
-use Rattle.stop_orders.proofs.Walk.{flft, fobs, Memory, Routine, Heap, Calls, Loops, WpFn, Atoms, Fun, givenOf, tables, tablesOf, Given, ‵}
-use Rattle.stop_orders.proofs.Walk.{raw, _⊛_, ⋆, _$_, _∵_, !, qed, by, move, keep, drop, use0, split, join, rewrite, fsplit, fsplit3, fjoin}
-use Rattle.stop_orders.proofs.Walk.{feqI, suffices, frame, done, look, look-raw, init, store-raw, forget, stop, hop, from, load, unit-lit}
-use Rattle.stop_orders.proofs.Walk.{of-opd, and-then, no-more, assigns, land, returns, enter, alloc1, alloc0, params1, pass1, pass0, free1}
-use Rattle.stop_orders.proofs.Walk.{free0, FmC, owns, RefT, MutRef, ptr-vals, mut-tells, plain, nothing, onEntry, tripleOf, Contract, Triple}
-use Rattle.stop_orders.proofs.Walk.{calls-at, lasts, entered, cited, says, Stays, gave-ref, walkOf, AllGo, goes-gave-ref, Walks, ends-at}
-use Rattle.stop_orders.proofs.Walk.{walked}
+use Rattle.stop_orders.proofs.Walking.{URA, fullShare, named, Val, vunit, vptr, SProp, ent, emp, id⊢, via, fst∗, Lft, Share, GName, ftrue, fat}
+use Rattle.stop_orders.proofs.Walking.{flft, fobs, Memory, Routine, Heap, Calls, Loops, WpFn, Atoms, Fun, givenOf, tables, tablesOf, Given, ‵}
+use Rattle.stop_orders.proofs.Walking.{raw, _⊛_, ⋆, _$_, _∵_, !, qed, by, move, keep, drop, use0, split, join, rewrite, fsplit, fsplit3, fjoin}
+use Rattle.stop_orders.proofs.Walking.{feqI, suffices, frame, done, look, look-raw, init, store-raw, forget, stop, hop, from, load, unit-lit}
+use Rattle.stop_orders.proofs.Walking.{of-opd, and-then, no-more, assigns, land, returns, enter, alloc1, alloc0, params1, pass1, pass0, free1}
+use Rattle.stop_orders.proofs.Walking.{free0, FmC, owns, RefT, MutRef, ptr-vals, mut-tells, plain, nothing, onEntry, tripleOf, Contract, Triple}
+use Rattle.stop_orders.proofs.Walking.{calls-at, lasts, entered, cited, says, Stays, gave-ref, walkOf, AllGo, goes-gave-ref, Walks, ends-at}
+use Rattle.stop_orders.proofs.Walking.{walked}
 use Rattle.book.specs.declared.PrintPath.{PrintPath}
 use Rattle.book.specs.Path.{closed}
 use Rattle.stop_orders.proofs.Plain.{value, stands}
