@@ -66,9 +66,9 @@ entries-alike s o l es k e =
     ∙ sym (ap (λ (t : List Elected). map likeWords (map likeness t)) (taken-written entries es k size))
 
 -- the number elected that an answer gives
-abbrev electedIn : Answer Counts → ℕ
-electedIn (refused k) = 0
-electedIn (accepted c) = c .elected
+abbrev countIn : Answer Counts → ℕ
+countIn (refused k) = 0
+countIn (accepted c) = c .elected
 
 ------------------------------------------------------------------------
 -- The calls with words, as the calls with records
@@ -94,7 +94,7 @@ module _ (s : Settings) (prints : PrintSegment) (w : List ℕ) (l : List (List �
 
   segment-count : (c : Counts) → records .answer ≡ accepted c → c .elected ≡ length (segment (s .kill) prints (bookOf w) .fills)
   unfolding segmentCall decide countsOf
-  segment-count c e = sym (ap electedIn (rw (← asked) at e))
+  segment-count c e = sym (ap countIn (rw (← asked) at e))
 
   segment-entries : (k : ℕ) → k ≡ length (segment (s .kill) prints (bookOf w) .fills)
       → map alikeWords (take k (words .elected)) ≡ map likeWords (map likeness (take k (records .elected)))
@@ -122,7 +122,7 @@ module _ (s : Settings) (prev : LastPrice) (prices : List Price) (w : List ℕ) 
 
   walk-count : (c : Counts) → records-walk .answer ≡ accepted c → c .elected ≡ length (walk (s .kill) prev prices (bookOf w) .fills)
   unfolding walkCall decide countsOf
-  walk-count c e = sym (ap electedIn (rw (← asked-walk) at e))
+  walk-count c e = sym (ap countIn (rw (← asked-walk) at e))
 
   walk-entries : (k : ℕ) → k ≡ length (walk (s .kill) prev prices (bookOf w) .fills)
       → map alikeWords (take k (words-walk .elected)) ≡ map likeWords (map likeness (take k (records-walk .elected)))
