@@ -2,6 +2,7 @@ pub mod Claims
 pub mod Constants
 pub mod Cut
 pub mod CutSegment
+pub mod EndsDecide
 pub mod Lent
 pub mod Lets
 pub mod Locals

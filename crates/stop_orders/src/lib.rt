@@ -1,27 +1,76 @@
-// The calls on lent state, from orderbook-rs's stop_orders.rs: each stores what a call by value answers.
-use admission::AdmissionAnswer;
-use book::Elected;
-use book::LastPrice;
-use book::Moved;
-use book::PrintPath;
-use book::PrintSegment;
-use book::Settings;
-use evaluation::EvaluationAnswer;
-use pricelevel::Id;
-use pricelevel::IdKind;
-use pricelevel::Price;
-use pricelevel::Quantity;
-use pricelevel::Seq;
-use print_path::NextSegment;
+// The public face: every call of orderbook-rs's stop_orders.rs that a host makes, none of which asks anything of what it is given. Calls
+// that need no form of their own are handed on with their contracts; those on a lent path and on lent lists of records stand below. The
+// methods of `StopTerms` (trailed, elected_by, inconsistency) and of `StopProtection` (try_new, limit_price, check_tick_size) come with
+// these types, and `Refusal::number` gives the number of a refusal.
 use print_path::closed;
 use print_path::recorded;
 use print_path::taken;
-use stop_protection::Limit;
-use stop_protection::LimitPrice;
-use stop_terms::StopTerms;
-use store_words::LayoutAnswer;
 use store_words::kind_of;
 use store_words::side_from;
+
+// The values that calls take and answer
+pub use admission::AdmissionAnswer;
+pub use admission::FindAnswer;
+pub use admission::QuantityAnswer;
+pub use admission::StopAnswer;
+pub use book::Elected;
+pub use book::LastPrice;
+pub use book::Moved;
+pub use book::OrderUpdate;
+pub use book::PrintPath;
+pub use book::PrintSegment;
+pub use book::Settings;
+pub use book::StopEntry;
+pub use error::Refusal;
+pub use evaluation::Counts;
+pub use evaluation::EvaluationAnswer;
+pub use pricelevel::Id;
+pub use pricelevel::IdKind;
+pub use pricelevel::Price;
+pub use pricelevel::Quantity;
+pub use pricelevel::Seq;
+pub use pricelevel::Side;
+pub use print_path::NextSegment;
+pub use repricing::Adjustment;
+pub use repricing::TrailingStopPrice;
+pub use stop_protection::Limit;
+pub use stop_protection::LimitPrice;
+pub use stop_protection::NewProtection;
+pub use stop_protection::Protection;
+pub use stop_protection::StopProtection;
+pub use stop_protection::TickCheck;
+pub use stop_terms::Inconsistency;
+pub use stop_terms::StopTerms;
+pub use store_words::LayoutAnswer;
+pub use store_words::Totals;
+pub use store_words::TwoWords;
+pub use uuid::Uuid;
+
+// Lays a store of n records and a tick, 0 for none, out in lent words. Refused: n is not 1 to 700, or there are too few words (2).
+pub use store_words::layout_store;
+
+// Whether lent words are a well-formed store. The words are only read.
+pub use form::well_formed;
+
+// Changes the pending stop of an identity; a quantity of zero cancels it. Refused: the store is not well formed (1); no such stop (12); a
+// change of price to the same (13); quantity zero (4); the stop beyond its watermark (6) or elected by the last trade (7); no sequence
+// left where one is taken (11).
+pub use admission::update_pending_stop;
+
+// Takes the pending stop of an identity out. Refused: the store is not well formed (1); no such stop (12).
+pub use admission::cancel_pending_stop;
+
+// The pending stop of an identity, if there is one. The store is only read. Refused: it is not well formed (1).
+pub use admission::pending_stop_order;
+
+// The pending quantity of each side. The store is only read. Refused: it is not well formed (1).
+pub use admission::pending_stop_quantity;
+
+// The stop price that a market price leads to, if it improves. Nothing is lent.
+pub use repricing::calculate_trailing_stop_price;
+
+// The identity of an elected stop's child order. Nothing is lent.
+pub use stop_trigger::stop_trigger_order_id;
 ghost use Prim.Native.Nat.{_<_, _≤_, _*_, min};
 ghost use mathlib.Core.List.{List, [], map};
 ghost use mathlib.Core.Path.{_≡_};
