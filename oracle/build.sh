@@ -1,7 +1,7 @@
 #!/bin/sh
 # Builds the oracle from the published files of orderbook-rs 0.15.3.
 #   oracle/build.sh FOLDER     FOLDER holds the files that published.sha256 names
-# The result is oracle/target/oracle.
+# The results are oracle/target/libpublished.rlib and oracle/target/oracle over it.
 set -eu
 if [ $# -ne 1 ]; then
     echo "usage: $0 FOLDER" >&2
@@ -20,5 +20,6 @@ for name in stop_orders repricing stop_protection; do
     chmod u+w "$here/target/published/$name.rs"
 done
 
-rustc -O --edition 2024 --crate-name oracle -o "$here/target/oracle" "$here/src/main.rs"
+rustc -O --edition 2024 --crate-type rlib --crate-name published -o "$here/target/libpublished.rlib" "$here/src/lib.rs"
+rustc -O --edition 2024 --crate-name oracle --extern published="$here/target/libpublished.rlib" -o "$here/target/oracle" "$here/src/main.rs"
 "$here/target/oracle" check

@@ -4,7 +4,7 @@ use std::cell::{Cell, Ref, RefCell, RefMut};
 use std::collections::{BTreeMap, HashMap, HashSet};
 use std::fmt;
 use std::hash::Hash;
-use std::ops::Deref;
+use std::ops::{Bound, Deref};
 
 /// crossbeam::atomic::AtomicCell. Its text is the value alone, which the driver reads.
 #[derive(Default)]
@@ -40,8 +40,8 @@ impl<K, V> Pair<K, V> {
     }
 }
 
-/// crossbeam_skiplist::SkipMap: in key order, a second insertion of a key replaces the first. The iteration is over a copy; the
-/// published code never alters a map while it iterates over it. Its text is the keys, which the driver reads.
+/// crossbeam_skiplist::SkipMap: in key order, a second insertion of a key replaces the first. The iteration goes from key to key, as far as
+/// it is asked, and may meet what changes on the way. Its text is the keys, which the driver reads.
 pub struct SkipMap<K, V>(RefCell<BTreeMap<K, V>>);
 
 impl<K, V> Default for SkipMap<K, V> {
@@ -69,9 +69,33 @@ impl<K: Ord + Clone, V: Clone> SkipMap<K, V> {
         self.0.borrow_mut().pop_first().map(|(key, value)| Pair(key, value))
     }
 
-    pub fn iter(&self) -> std::vec::IntoIter<Pair<K, V>> {
-        let all: Vec<Pair<K, V>> = self.0.borrow().iter().map(|(key, value)| Pair(key.clone(), value.clone())).collect();
-        all.into_iter()
+    pub fn iter(&self) -> InOrder<'_, K, V> {
+        InOrder { map: &self.0, front: Bound::Unbounded, back: Bound::Unbounded }
+    }
+}
+
+/// What is left of an iteration: the keys between the last ones that each end handed out.
+pub struct InOrder<'a, K, V> {
+    map: &'a RefCell<BTreeMap<K, V>>,
+    front: Bound<K>,
+    back: Bound<K>,
+}
+
+impl<K: Ord + Clone, V: Clone> Iterator for InOrder<'_, K, V> {
+    type Item = Pair<K, V>;
+
+    fn next(&mut self) -> Option<Pair<K, V>> {
+        let found = self.map.borrow().range((self.front.clone(), self.back.clone())).next().map(|(key, value)| Pair(key.clone(), value.clone()))?;
+        self.front = Bound::Excluded(found.0.clone());
+        Some(found)
+    }
+}
+
+impl<K: Ord + Clone, V: Clone> DoubleEndedIterator for InOrder<'_, K, V> {
+    fn next_back(&mut self) -> Option<Pair<K, V>> {
+        let found = self.map.borrow().range((self.front.clone(), self.back.clone())).next_back().map(|(key, value)| Pair(key.clone(), value.clone()))?;
+        self.back = Bound::Excluded(found.0.clone());
+        Some(found)
     }
 }
 

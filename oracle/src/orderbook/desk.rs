@@ -232,6 +232,15 @@ impl Desk {
         self.book.last_trade.set(Some(last));
     }
 
+    /// One print, and run_stop_triggers over it, as a book without a script of children does: how many moved and how many were elected. For
+    /// timing, so nothing is read back.
+    pub fn print_and_run(&self, prev: Option<u64>, price: u64) -> (usize, usize) {
+        self.book.log.borrow_mut().clear();
+        self.print(prev, price, price);
+        let pass = self.book.run_stop_triggers();
+        (pass.trailed, pass.elected)
+    }
+
     /// run_stop_triggers over the path and the last trade as they stand, with a script for the children.
     pub fn run(&self, script: &[Printed]) -> Result<Evaluated, String> {
         let (before, next, path, settings) = (self.stops()?, self.next_seq()?, self.path()?, self.settings()?);
