@@ -18,9 +18,8 @@ use Rattle.book.specs.Store.{PathOutcome, admissionQuestions, newEntry, admitte
 use Rattle.book.specs.Words.{bookOf}
 use Rattle.book.specs.declared.LastPrice.{LastPrice}
 use Rattle.book.specs.declared.PrintPath.{PrintPath}
-use Rattle.pending_stops.proofs.Finding.{beyond, stored-words}
+use Rattle.pending_stops.proofs.Finding.{beyond, stored-words, wellFormed-stored, count-word}
 use Rattle.pending_stops.specs.Stored.{Stored}
-use Rattle.admission.proofs.Asking.{count-word}
 
 module _ (kill : Bool) (trade : LastPrice) (id : Id) (terms : StopTerms) (quantity : Quantity) (w : List ℕ) (path : PrintPath) where
   abbrev outcome : PathOutcome Seq
@@ -42,5 +41,5 @@ module _ (kill : Bool) (trade : LastPrice) (id : Id) (terms : StopTerms) (quanti
   admit-done h q e after p u st =
       let formed = admission-admissible kill trade id terms quantity w (sym h) .0 in (
         rw (← h) (ap (λ (s : ℕ). accepted (told s)) e),
-        (rw (← h, ← count-word w formed) p, rw (← h) (stored-words w u (admitted (newEntry id terms quantity (bookOf w)) (bookOf w)) st)),
+        (rw (← h, ← count-word (wellFormed-stored w formed)) p, rw (← h) (stored-words w u (admitted (newEntry id terms quantity (bookOf w)) (bookOf w)) st)),
       )

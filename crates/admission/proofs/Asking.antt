@@ -20,8 +20,7 @@ use Rattle.book.specs.Questions.{Question, question, firstNo}
 use Rattle.book.specs.Store.{withinWatermark, notTriggered, isSome, isPending, lookup, admissionQuestions}
 use Rattle.book.specs.Words.{bookOf, wellFormed}
 use Rattle.book.specs.declared.LastPrice.{LastPrice}
-use Rattle.pending_stops.proofs.Finding.{missing, found, wellFormed-stored}
-use Rattle.pending_stops.proofs.Holding.{stored-holds}
+use Rattle.pending_stops.proofs.Finding.{missing, found, wellFormed-stored, count-word}
 use Rattle.store_words.specs.Search.{indexOr0}
 use Rattle.admission.specs.Asked.{termsQuestions, storeQuestions}
 
@@ -68,14 +67,11 @@ unfolding bookOf
 sequence-none w h = le-ltb _ _ h
 
 module _ (w : List ℕ) (e : wellFormed w ≡ true) where
-  pub count-word : getD w 1 0 ≡ pendingCount (bookOf w .slots)
-  count-word = stored-holds (wellFormed-stored w e) .contents .word1
-
   pub room-left : (n : ℕ) → n ≡ getD w 0 0 → getD w 1 0 < n → ltb (pendingCount (bookOf w .slots)) (length (bookOf w .slots)) ≡ true
-  room-left n q h = rw (← count-word, bookOf-slots-length w, ← q) (lt-ltb _ _ h)
+  room-left n q h = rw (← count-word (wellFormed-stored w e), bookOf-slots-length w, ← q) (lt-ltb _ _ h)
 
   pub room-none : (n : ℕ) → n ≡ getD w 0 0 → n ≤ getD w 1 0 → ltb (pendingCount (bookOf w .slots)) (length (bookOf w .slots)) ≡ false
-  room-none n q h = rw (← count-word, bookOf-slots-length w, ← q) (le-ltb _ _ h)
+  room-none n q h = rw (← count-word (wellFormed-stored w e), bookOf-slots-length w, ← q) (le-ltb _ _ h)
 
 ------------------------------------------------------------------------
 -- An admission's questions in two parts

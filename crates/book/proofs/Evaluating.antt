@@ -69,7 +69,7 @@ pub data PointsAt (kill : Bool) : List Price → Book → Evaluated → Type 0 w
   next : {ps : List Price} {b : Book} {rest : Evaluated} (first : Bool) (p : Price) → PointsAt kill ps (point kill first p b .book) rest
       → PointsAt kill (p ∷ ps) b (andThen (point kill first p b) rest)
 
-walkFrom-points : (kill falls : Bool) (from : LastPrice) (ps : List Price) (b : Book) → PointsAt kill ps b (walkFrom kill falls from ps b)
+pub walkFrom-points : (kill falls : Bool) (from : LastPrice) (ps : List Price) (b : Book) → PointsAt kill ps b (walkFrom kill falls from ps b)
 unfolding walkFrom
 walkFrom-points kill falls from [] b = done
 walkFrom-points kill falls from (p ∷ ps) b =

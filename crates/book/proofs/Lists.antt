@@ -1,11 +1,13 @@
 -- Laws of lists: what holds of every element, tests on every element, and equality of lists of numbers.
-use Prim.Native.Nat.{ℕ, zero, suc, _<_}
+use Prim.Native.Nat.{ℕ, zero, suc, _+_, _<_}
 use mathlib.Core.Path.{_≡_, refl, ap₂}
 use mathlib.Core.Bool.{Bool, true, false, false≢true}
 use mathlib.Core.List.{List, [], _∷_, _++_, map}
+use native.Mathlib.Nat.{add-zero, add-suc, suc-add}
 use native.Mathlib.Omega.{arith}
 use lib.Dec.{eqb}
 use lib.ListN.{length, getD, set, drop, replicate}
+use lib.Seq.{sets}
 use borrow.Author.Tests.{eqb-true, eq-eqb}
 use Rattle.pricelevel.proofs.Bools.{and-parts}
 use Rattle.book.specs.Lists.{every, sameList}
@@ -92,3 +94,8 @@ all-mapped P Q f g (x ∷ l) h = (g x (h .0), all-mapped P Q f g l (h .1))
 pub map-agree : {A B : Type 0} (f g : A → B) (l : List A) → All (λ x. f x ≡ g x) l → map f l ≡ map g l
 map-agree f g [] h = refl
 map-agree f g (x ∷ l) h = rw (h .0, map-agree f g l (h .1))
+
+-- elements stored from a place on, and more behind them
+pub sets-append : {A : Type 0} (xs ys l : List A) (i : ℕ) → sets (sets l i xs) (i + length xs) ys ≡ sets l i (xs ++ ys)
+sets-append [] ys l i = rw add-zero
+sets-append (x ∷ xs) ys l i = rw (add-suc, ← suc-add) (sets-append xs ys (set l i x) (suc i))

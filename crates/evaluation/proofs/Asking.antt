@@ -13,13 +13,13 @@ use Rattle.book.specs.Questions.{firstNo}
 use Rattle.book.specs.Words.{mostRecords, bookOf, wellFormed}
 use Rattle.form.proofs.Counts.{pendingCount-few}
 use Rattle.pending_stops.proofs.Finding.{wellFormed-stored}
-use Rattle.pending_stops.proofs.Holding.{stored-holds}
+use Rattle.pending_stops.proofs.Finding as finding
 use Rattle.store_words.proofs.ChainsOf.{wellFormed-room}
 
 module _ (w : List ℕ) (e : wellFormed w ≡ true) where
   pub count-word : getD w 1 0 ≡ pendingIn w
   unfolding pendingIn
-  count-word = stored-holds (wellFormed-stored w e) .contents .word1
+  count-word = finding.count-word (wellFormed-stored w e)
 
   pub count-few : getD w 1 0 ≤ mostRecords
   unfolding pendingIn bookOf

@@ -5,13 +5,10 @@ use mathlib.Core.Path.{_≡_, refl, sym, ap, _∙_}
 use mathlib.Core.List.{List, [], _∷_, _++_, map}
 use lib.ListN.{length, getD, set, length-set}
 use lib.Seq.{getD-set-same, getD-set-other, set-set, set-comm, sets, sets-eq}
+use Rattle.book.proofs.Lists.{sets-append}
 use Rattle.book.specs.Calls.{written}
 
 module _ {A : Type 0} where
-  pub sets-append : (xs ys l : List A) (at : ℕ) → sets (sets l at xs) (at + length xs) ys ≡ sets l at (xs ++ ys)
-  sets-append [] ys l at = let e : at + 0 ≡ at = omega arith in rw e
-  sets-append (x ∷ xs) ys l at = let e : at + suc (length xs) ≡ suc at + length xs = omega arith in rw e (sets-append xs ys (set l at x) (suc at))
-
   -- after a run that ends at m
   pub sets-on : (xs ys l : List A) (at m : ℕ) → m ≡ at + length xs → sets (sets l at xs) m ys ≡ sets l at (xs ++ ys)
   sets-on xs ys l at m e = rw e (sets-append xs ys l at)

@@ -17,6 +17,7 @@ use Rattle.book.specs.Words.{mostRecords}
 use Rattle.book.specs.declared.PrintSegment.{PrintSegment}
 use Rattle.book.specs.declared.Settings.{Settings}
 use Rattle.listing.specs.Entries.{electedWords}
+use Rattle.pending_stops.proofs.Finding.{count-word}
 use Rattle.pending_stops.proofs.Holding.{stored-holds}
 use Rattle.pending_stops.specs.Stored.{Stored}
 use Rattle.points.proofs.Stepping.{stored-few, run-on}
@@ -41,9 +42,6 @@ Passes left settings script n w v l k at words head tail moves end used =
 -- the next segment of the queue is told
 abbrev pub Tells : NextSegment → List (List ℕ) → ℕ → ℕ → Type 0
 Tells told words head tail = (q : List PrintSegment) → Queued words head tail q → toldNext told ≡ firstOf q
-
-pub count-word : {n : ℕ} {w : List ℕ} {b : Book} {r : List ℕ} → Stored n w b r → getD w 1 0 ≡ pendingCount (b .slots)
-count-word st = stored-holds st .contents .word1
 
 pub count-inside : {n : ℕ} {w : List ℕ} {b : Book} {r : List ℕ} → Stored n w b r → 1 < length w
 count-inside st = omega (arith, stored-holds st .chained .inside .room)

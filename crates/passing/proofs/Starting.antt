@@ -11,11 +11,12 @@ use Rattle.book.specs.Words.{mostRecords}
 use Rattle.book.specs.declared.PrintSegment.{PrintSegment}
 use Rattle.book.specs.declared.Settings.{Settings}
 use Rattle.listing.specs.Entries.{electedWords}
+use Rattle.pending_stops.proofs.Finding.{count-word}
 use Rattle.pending_stops.specs.Stored.{Stored}
 use Rattle.points.proofs.Stepping.{stored-few}
 use Rattle.script.proofs.Queueing.{queued-sets}
 use Rattle.script.specs.Queue.{segmentWords, Queued}
-use Rattle.passing.proofs.Passes.{Passes, count-word}
+use Rattle.passing.proofs.Passes.{Passes}
 
 -- the entries of the queue but the first
 abbrev pub vacant : List (List ℕ)

@@ -10,7 +10,7 @@ use lib.ListN.{length, getD, drop}
 use Rattle.pricelevel.specs.declared.Id.{Id}
 use Rattle.book.proofs.Lookup.{InBook, lookup-found}
 use Rattle.book.proofs.WellFormed.{wellFormed-valid, wellFormed-fits, wellFormed-layout, bookOf-slots-length}
-use Rattle.book.specs.Book.{Book, Pending, sideOf}
+use Rattle.book.specs.Book.{Book, Pending, sideOf, pendingCount}
 use Rattle.book.specs.Store.{stored, storedBook, lookup}
 use Rattle.book.specs.Words.{storeLength, entryAt, bookOf, wellFormed}
 use Rattle.book.specs.declared.StopEntry.{StopEntry}
@@ -35,6 +35,10 @@ wellFormed-stored w e =
 pub stored-words : (w u : List ℕ) (b : Book) → Stored (getD w 0 0) u b (beyond w) → u ≡ storedBook b w
 unfolding storedBook stored
 stored-words w u b st = st .words
+
+-- word 1 is the pending count
+pub count-word : {n : ℕ} {w : List ℕ} {b : Book} {r : List ℕ} → Stored n w b r → getD w 1 0 ≡ pendingCount (b .slots)
+count-word st = stored-holds st .contents .word1
 
 ------------------------------------------------------------------------
 -- The search

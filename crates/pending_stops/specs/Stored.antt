@@ -2,10 +2,9 @@
 use Prim.Native.Nat.{ℕ, _-_}
 use mathlib.Core.Path.{_≡_}
 use mathlib.Core.List.{List, [], _∷_, _++_}
-use lib.ListN.{length, replicate}
+use lib.ListN.{length, replicate, set}
 use Rattle.pricelevel.specs.Identity.{kindNumber}
 use Rattle.pricelevel.specs.Side.{sideNumber}
-use Rattle.book.proofs.Operations.{withSlot}
 use Rattle.book.proofs.Validity.{Valid, Fits}
 use Rattle.book.specs.Book.{Slot, vacant, held, Book, sideOf, stopOf, watermarkOf, seqOf}
 use Rattle.book.specs.Words.{layout}
@@ -28,4 +27,4 @@ dataWords (held t) =
 
 -- record i holds another stop, and the next sequence is another
 abbrev pub replaced : ℕ → StopEntry → ℕ → Book → Book
-replaced i t next b = withSlot b next (i - 1) (held t) (b .free)
+replaced i t next b = record { next = next; tick = b .tick; slots = set (b .slots) (i - 1) (held t); free = b .free }

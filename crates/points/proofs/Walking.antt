@@ -7,7 +7,7 @@ use mathlib.Core.List.{List, [], _∷_, _++_, map, map-append, append-assoc}
 use lib.ListN.{length, getD, take}
 use lib.Seq.{sets, take-suc, take-all}
 use Rattle.pricelevel.specs.declared.Price.{Price}
-use Rattle.book.proofs.Evaluating.{PointsAt, done, next, points-count}
+use Rattle.book.proofs.Evaluating.{walkFrom-points, points-count}
 use Rattle.book.specs.Book.{Book, pendingCount}
 use Rattle.book.specs.Evaluation.{Evaluated, point, sellsFirst, fallsTo, andThen, walkFrom, lastOf, walk}
 use Rattle.book.specs.Words.{mostRecords}
@@ -53,14 +53,9 @@ module _ (kill falls : Bool) where
       sym (then-then o w latest) ∙ ap (andThen o) (walkFrom-more (last.At q) ps p (o .book))
 
   -- as many fewer are pending
-  walkFrom-points : (from : LastPrice) (ps : List Price) (b : Book) → PointsAt kill ps b (walkFrom kill falls from ps b)
-  unfolding walkFrom
-  walkFrom-points from [] b = done
-  walkFrom-points from (p ∷ ps) b = next (sellsFirst falls from p) p (walkFrom-points (last.At p) ps (point kill (sellsFirst falls from p) p b .book))
-
   pub walkFrom-count : (from : LastPrice) (ps : List Price) (b : Book)
       → pendingCount (b .slots) ≡ pendingCount (walkFrom kill falls from ps b .book .slots) + length (walkFrom kill falls from ps b .fills)
-  walkFrom-count from ps b = points-count kill (walkFrom-points from ps b)
+  walkFrom-count from ps b = points-count kill (walkFrom-points kill falls from ps b)
 
 ------------------------------------------------------------------------
 -- The prices as words

@@ -8,6 +8,7 @@ use native.Mathlib.Numerals.{add-one}
 use native.Mathlib.Omega.{arith}
 use lib.ListN.{length, getD, set, take, length-append, length-map}
 use lib.Seq.{slice, slice-empty, slice-cons, sets, sets-eq, length-sets, take-at, length-take-le, drop-append-le}
+use Rattle.book.proofs.Lists.{sets-append}
 use Rattle.book.specs.declared.LastPrice.{LastPrice}
 use Rattle.book.specs.declared.LastPrice.the-variants as last
 use Rattle.book.specs.declared.PrintSegment.{PrintSegment}
@@ -97,10 +98,6 @@ queued-sets words head q room = queued-more (queued-none words head (omega (arit
 -- segments put behind the queue one after another
 pub enqueued-none : (words : List (List ℕ)) (tail : ℕ) → Enqueued [] words tail words tail
 enqueued-none words tail = record { stand = refl; ends = omega arith }
-
-pub sets-append : {A : Type 0} (xs ys l : List A) (i : ℕ) → sets (sets l i xs) (i + length xs) ys ≡ sets l i (xs ++ ys)
-sets-append [] ys l i = rw add-zero
-sets-append (x ∷ xs) ys l i = rw (add-suc, ← suc-add) (sets-append xs ys (set l i x) (suc i))
 
 pub enqueued-then : {xs ys : List PrintSegment} {words words′ words″ : List (List ℕ)} {tail tail′ tail″ : ℕ}
     → Enqueued xs words tail words′ tail′ → Enqueued ys words′ tail′ words″ tail″ → Enqueued (xs ++ ys) words tail words″ tail″

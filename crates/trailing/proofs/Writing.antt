@@ -12,6 +12,7 @@ use Rattle.pricelevel.specs.Side.{sideNumber}
 use Rattle.pricelevel.specs.declared.Price.{Price}
 use Rattle.stop_terms.specs.Terms.{trailedAt}
 use Rattle.stop_terms.specs.declared.StopTerms.{StopTerms}
+use Rattle.book.proofs.Lists.{sets-append}
 use Rattle.book.proofs.Stops.{trailed-keeps}
 use Rattle.book.specs.Book.{held, sideOf, stopOf, watermarkOf}
 use Rattle.book.specs.Evaluation.{trailed}
@@ -56,10 +57,6 @@ sets-same (v ∷ vs) w p h =
     set-same : (w : List ℕ) (q v : ℕ) → getD w q 0 ≡ v → set w q v ≡ w
     set-same w q v e = rw (← e) (set-getD w q 0)
 
-sets-append : (xs ys w : List ℕ) (p : ℕ) → sets w p (xs ++ ys) ≡ sets (sets w p xs) (p + length xs) ys
-sets-append [] ys w p = rw add-zero
-sets-append (x ∷ xs) ys w p = rw (add-suc, ← suc-add) (sets-append xs ys (set w p x) (suc p))
-
 module _ (w : List ℕ) (i : ℕ) (t : StopEntry) (price : Price) (h : (k : ℕ) → k < dataLength → recordWord w i k ≡ getD (dataWords (held t)) k 0) where
   abbrev front : List ℕ
   front = kindNumber (t .id .kind) ∷ t .id .high ∷ t .id .low ∷ sideNumber (sideOf t) ∷ []
@@ -103,7 +100,7 @@ module _ (w : List ℕ) (i : ℕ) (t : StopEntry) (price : Price) (h : (k : ℕ)
   pub trailed-words : sets w (cell i 4) new ≡ sets w (cell i 0) (dataWords (held (trailed price t)))
   trailed-words =
       rw (parts, cell-plus i 4)
-      (sym (sets-append front (new ++ back) w (cell i 0)
+      (sym (sym (sets-append front (new ++ back) w (cell i 0))
       ∙ ap (λ (v : List ℕ). sets v (cell i 0 + 4) (new ++ back)) (sets-same front w (cell i 0) front-words)
-      ∙ sets-append new back w (cell i 0 + 4)
+      ∙ sym (sets-append new back w (cell i 0 + 4))
       ∙ sets-same back (sets w (cell i 0 + 4) new) (cell i 0 + 4 + 2) back-words))
