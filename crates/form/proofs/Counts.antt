@@ -4,6 +4,7 @@ use native.Mathlib.Omega.{arith}
 use native.Mathlib.Numerals.{add-one}
 use mathlib.Core.Path.{_≡_, refl, sym, _∙_}
 use mathlib.Core.Bool.{cond}
+use mathlib.Core.Logic.{_⊎_, ⊎-elim}
 use mathlib.Core.List.{List, [], _∷_}
 use borrow.Author.Tests.{ne-eqb, eq-eqb}
 use lib.Dec.{eqb}
@@ -15,7 +16,8 @@ use Rattle.book.proofs.Reading.{slotsAt-length}
 use Rattle.book.proofs.FreeChain.{pendingCount-vacant}
 use Rattle.book.specs.Book.{Slot, vacant, held, sideOf, pendingCount}
 use Rattle.book.specs.Words.{slotAt, slotsAt, vacantIndices}
-use Rattle.form.specs.Check.{slotGroup, groupCount}
+use Rattle.form.specs.Check.{slotGroup, groupCount, SidesCounted}
+use Rattle.form.specs.declared.Sides.{Sides}
 
 ------------------------------------------------------------------------
 -- A loop over m records from i on
@@ -39,11 +41,17 @@ module _ (g : ℕ) (w : List ℕ) (whole i m c : ℕ) (inv : c + groupCount g (s
       go (suc m) h e = let z : suc m - 1 ≡ m = omega arith in rw (z, add-one) e
 
   module _ (h : ℕ) (e : h ≡ slotGroup (slotAt w i)) (some : 0 < m) where
-    pub count-yes : h ≡ g → (c + 1) + groupCount g (slotsAt w (i + 1) (m - 1)) ≡ whole
+    count-yes : h ≡ g → (c + 1) + groupCount g (slotsAt w (i + 1) (m - 1)) ≡ whole
     count-yes q = omega (arith, rw (eq-eqb (slotGroup (slotAt w i)) g (sym e ∙ q)) at (count-step some))
 
-    pub count-no : (h ≡ g → ⊥) → c + groupCount g (slotsAt w (i + 1) (m - 1)) ≡ whole
+    count-no : (h ≡ g → ⊥) → c + groupCount g (slotsAt w (i + 1) (m - 1)) ≡ whole
     count-no q = omega (arith, rw (ne-eqb (slotGroup (slotAt w i)) g (λ x. q (e ∙ x))) at (count-step some))
+
+    -- a turn counts record i or not
+    pub count-turn : (d : ℕ) → c < i → ((h ≡ g) × (d ≡ c + 1)) ⊎ ((h ≡ g → ⊥) × (d ≡ c))
+        → (d < i + 1) × (d + groupCount g (slotsAt w (i + 1) (m - 1)) ≡ whole)
+    count-turn d few came =
+        ⊎-elim (λ x. (omega (arith, x .1), rw (x .1) (count-yes (x .0)))) (λ x. (omega (arith, x .1), rw (x .1) (count-no (x .0)))) came
 
 ------------------------------------------------------------------------
 -- The sides and the vacant records
@@ -69,13 +77,16 @@ groupCount-vacants i (held t ∷ ss) = go (sideOf t) (groupCount-vacants (suc i)
     go Sell e = omega arith
     go Buy e = omega arith
 
--- the counts of the two sides add up to that of the pending records, which are at most n
-pub sides-pending : (w : List ℕ) (n sells buys : ℕ) → sells ≡ groupCount 1 (slotsAt w 1 n) → buys ≡ groupCount 0 (slotsAt w 1 n)
-    → sells + buys ≡ pendingCount (slotsAt w 1 n)
-sides-pending w n sells buys e f = omega (arith, groupCount-sides (slotsAt w 1 n))
-
 pub pendingCount-few : (w : List ℕ) (n : ℕ) → pendingCount (slotsAt w 1 n) ≤ n
 pendingCount-few w n = omega (arith, pendingCount-vacant 1 (slotsAt w 1 n), slotsAt-length w 1 n)
+
+-- the counts of the two sides add up to that of the pending records, which are at most n
+module _ {sides : Sides} {w : List ℕ} {n : ℕ} (counted : SidesCounted sides w n) where
+  pub sides-pending : sides .sells + sides .buys ≡ pendingCount (slotsAt w 1 n)
+  sides-pending = omega (arith, counted .sells, counted .buys, groupCount-sides (slotsAt w 1 n))
+
+  pub sides-few : sides .sells + sides .buys ≤ n
+  sides-few = omega (arith, sides-pending, pendingCount-few w n)
 
 -- the vacant ones are those that the sides leave
 pub groupCount-rest : (w : List ℕ) (n : ℕ) → groupCount 2 (slotsAt w 1 n) ≡ n - pendingCount (slotsAt w 1 n)

@@ -1,11 +1,12 @@
 pub mod Ascending
+pub mod Buckets
 pub mod Chained
 pub mod Counts
 pub mod Exact
 pub mod Groups
+pub mod Keys
 pub mod Linking
 pub mod Members
-pub mod Pairs
 pub mod Placing
 pub mod Records
 pub mod Slots

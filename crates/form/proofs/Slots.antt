@@ -6,9 +6,9 @@ use mathlib.Core.Path.{_≡_, refl}
 use mathlib.Core.Bool.{Bool, true, false, cond}
 use mathlib.Core.List.{List}
 use mathlib.Core.Option.{none, some}
-use borrow.Author.Tests.{eq-eqb, ne-eqb}
+use borrow.Author.Tests.{eq-eqb, ne-eqb, ltb-true, ltb-false}
 use borrow.Table.Steps.{cases}
-use lib.Dec.{eqb}
+use lib.Dec.{eqb, ltb}
 use lib.ListN.{getD}
 use Rattle.pricelevel.specs.Identity.{kindNumber}
 use Rattle.pricelevel.specs.Side.{sideNumber}
@@ -101,6 +101,13 @@ pub slotsAt-all : (P : Slot → Type 0) (w : List ℕ) (i k : ℕ) → ((j : ℕ
 unfolding slotsAt
 slotsAt-all P w i zero h = tt
 slotsAt-all P w i (suc k) h = (h i (omega arith) (omega arith), slotsAt-all P w (suc i) k (λ j low high. h j (omega arith) (omega arith)))
+
+pub slotsAt-each : (P : Slot → Type 0) (w : List ℕ) (i k : ℕ) → All P (slotsAt w i k) → (j : ℕ) → i ≤ j → j < i + k → P (slotAt w j)
+unfolding slotsAt
+slotsAt-each P w i zero h j low high = absurd (omega arith)
+slotsAt-each P w i (suc k) h j low high = cases (ltb i j)
+    (λ e. slotsAt-each P w (suc i) k (h .1) j (omega (arith, ltb-true i j e)) (omega arith))
+    (λ e. let q : j ≡ i = omega (arith, ltb-false i j e) in rw q (h .0))
 
 -- the numbers of a record that is read from words are words
 pub slotAt-fits : (w : List ℕ) → ((p : ℕ) → getD w p 0 < 2 ^ 64) → (i : ℕ) → SlotFits (slotAt w i)

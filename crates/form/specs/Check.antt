@@ -1,6 +1,7 @@
 -- What the form check computes, test by test: document 01, The store. Each record by itself, the count, a walk along each of the five
 -- chains, and the pairs of records.
-use Prim.Native.Nat.{ℕ, zero, suc, _+_, _-_}
+use Prim.Native.Nat.{ℕ, zero, suc, _+_}
+use mathlib.Core.Path.{_≡_}
 use mathlib.Core.Bool.{Bool, true, cond, _&&_, _||_}
 use mathlib.Core.List.{List, [], _∷_}
 use lib.Dec.{leb, ltb, eqb}
@@ -10,10 +11,11 @@ use Rattle.pricelevel.specs.declared.Side.{Side}
 use Rattle.pricelevel.specs.declared.Side.the-variants.{Buy, Sell}
 use Rattle.book.specs.Book.{Slot, vacant, held, chainSide, sideOf, pendingCount}
 use Rattle.book.specs.Lists.{every, rising}
-use Rattle.book.specs.Words.{headerLength, mostRecords, storeLength, cell, recordWord, entryAt, slotAt, slotsAt, soundStop, differs, allDiffer}
+use Rattle.book.specs.Words.{headerLength, mostRecords, storeLength, cell, recordWord, entryAt, slotAt, slotsAt, soundStop, allDiffer}
 use Rattle.book.specs.declared.Chain.the-variants.{ByStop, ByWatermark}
 use Rattle.chains.specs.Links.{headOf, linkOf}
 use Rattle.chains.specs.Rank.{rankAt}
+use Rattle.form.specs.declared.Sides.{Sides}
 use Rattle.form.specs.declared.StoreChain.{StoreChain}
 use Rattle.form.specs.declared.StoreChain.the-variants.{Ordered, Free}
 
@@ -62,6 +64,10 @@ unfoldable pub groupCount : ℕ → List Slot → ℕ
 groupCount g [] = 0
 groupCount g (s ∷ ss) = cond (eqb (slotGroup s) g) 1 0 + groupCount g ss
 
+pub record SidesCounted (sides : Sides) (w : List ℕ) (n : ℕ) : Type 0 where
+  pub sells : sides .sells ≡ groupCount (sideNumber Sell) (slotsAt w 1 n)
+  pub buys : sides .buys ≡ groupCount (sideNumber Buy) (slotsAt w 1 n)
+
 -- record j may come after record q, or first, where q is 0
 unfoldable pub mayFollow : StoreChain → List ℕ → ℕ → ℕ → Bool
 mayFollow (Ordered c) w q j = eqb q 0 || ltb (rankAt c w q) (rankAt c w j)
@@ -88,20 +94,6 @@ sideFormed side w n = chainFormed (Ordered (ByStop side)) w n && chainFormed (Or
 unfoldable pub chainsFormed : List ℕ → ℕ → Bool
 chainsFormed w n =
     eqb (getD w 1 0) (pendingCount (slotsAt w 1 n)) && (sideFormed Sell w n && (sideFormed Buy w n && chainFormed Free w n))
-
-------------------------------------------------------------------------
--- Pairs of records
-
-unfoldable pub differing : Slot → Slot → Bool
-differing vacant s = true
-differing (held t) s = differs t s
-
-unfoldable pub differAt : List ℕ → ℕ → ℕ → Bool
-differAt w i j = differing (slotAt w i) (slotAt w j)
-
--- record i differs from each record after it
-unfoldable pub aloneAt : List ℕ → ℕ → ℕ → Bool
-aloneAt w n i = every (differAt w i) (rising (i + 1) (n - i))
 
 ------------------------------------------------------------------------
 -- All of it

@@ -1,5 +1,6 @@
 // The form check of the store: whether lent words are those of a valid book. Each record is looked at by itself, and each chain is
-// walked for as many steps as it should have records, so that the check ends on any words, in no memory of its own.
+// walked for as many steps as it should have records, so that the check ends on any words. Stops are told apart by buckets of their
+// keys, in two local tables, the only memory of its own.
 use book::Chain;
 use chains::cell;
 use chains::head_of;
@@ -9,11 +10,12 @@ use chains::rank_of;
 use chains::word;
 use pricelevel::Side;
 use pricelevel::on_tick;
+use std::num::wrapping_add_u64;
 use stop_terms::Inconsistency;
 use stop_terms::StopTerms;
 use store_words::terms_at;
 ghost use mathlib.Core.Path.{_≡_};
-ghost use Prim.Native.Nat.{_+_, _≤_, _<_};
+ghost use Prim.Native.Nat.{_+_, _-_, _≤_, _<_};
 ghost use lib.ListN.{getD};
 ghost use Rattle.pricelevel.specs.Identity.{kindNumber};
 ghost use Rattle.pricelevel.specs.Side.{sideNumber};
@@ -22,12 +24,25 @@ ghost use Rattle.book.specs.Lists.{every, rising};
 ghost use Rattle.book.specs.declared.StopEntry.{StopEntry};
 ghost use Rattle.book.specs.Words.{kindOf, recordWord, entryAt, slotAt, slotsAt, consistent, soundStop, allDiffer, wellFormed};
 ghost use Rattle.chains.specs.Records.{Room, Record};
-ghost use Rattle.form.specs.Check.{blank, recordFormed, startOf, nextOf, groupOf, slotGroup, groupCount, mayFollow, walkFormed, sideFormed, chainsFormed, differAt, aloneAt};
+ghost use Rattle.form.specs.Check.{blank, recordFormed, startOf, nextOf, groupOf, slotGroup, groupCount, SidesCounted, mayFollow, walkFormed, sideFormed, chainsFormed};
+ghost use Rattle.form.specs.Keys.{buckets, bucketAt, sameKey, Stop, inBucket, lastOf, Bucketed, newAt, keysDiffer};
 
 // One of the five chains of a store: the four in order, and the one of the vacant records.
 enum StoreChain {
     Ordered(Chain),
     Free,
+}
+
+// How many records each side has.
+struct Sides {
+    sells: u64,
+    buys: u64,
+}
+
+// What no two stops share.
+enum Key {
+    Sequence,
+    Identity,
 }
 
 // Whether a stop's terms have no inconsistency.
@@ -136,24 +151,30 @@ fn group_of(s: &[u64], n: u64, i: u64) -> u64
     1
 }
 
-// How many records are in a group.
-fn count_of(s: &[u64], n: u64, g: u64) -> u64
+// How many records each side has.
+fn count_sides(s: &[u64], n: u64) -> Sides
     requires { ⌜ Room n (now s) ⌝ }
-    ensures { λ r. ⌜ r ≡ groupCount g (slotsAt (now (s .entry)) 1 n) ⌝ }
-    ensures { λ r. ⌜ r ≤ n ⌝ }
+    ensures { λ r. ⌜ SidesCounted r (now (s .entry)) n ⌝ }
 {
     let mut i: u64 = 1;
     let mut left = n;
-    let mut count: u64 = 0;
+    let mut sells: u64 = 0;
+    let mut buys: u64 = 0;
     while left > 0 {
-        let h = group_of(s, n, i);
-        if h == g {
-            count = count + 1;
+        let g = group_of(s, n, i);
+        if g == 1 {
+            sells = sells + 1;
+        }
+        if g == 0 {
+            buys = buys + 1;
         }
         i = i + 1;
         left = left - 1;
     }
-    count
+    Sides {
+        sells: sells,
+        buys: buys,
+    }
 }
 
 // The header word that starts a chain.
@@ -264,8 +285,9 @@ fn chains_formed(s: &[u64], n: u64) -> bool
     requires { ⌜ Room n (now s) ⌝ }
     ensures { λ r. ⌜ r ≡ chainsFormed (now (s .entry)) n ⌝ }
 {
-    let sells = count_of(s, n, 1);
-    let buys = count_of(s, n, 0);
+    let sides = count_sides(s, n);
+    let sells = sides.sells;
+    let buys = sides.buys;
     let pending = sells + buys;
     if s[1] != pending {
         return false;
@@ -289,41 +311,77 @@ fn kind_number(word: u64) -> u64
     word
 }
 
-// Whether two records are not two stops of one sequence or one identity.
-fn differ_at(s: &[u64], n: u64, i: u64, j: u64) -> bool
-    requires { ⌜ Record n (now s) i × Record n (now s) j ⌝ }
-    ensures { λ r. ⌜ r ≡ differAt (now (s .entry)) i j ⌝ }
+// The bucket of the key of record i.
+fn bucket_of(s: &[u64], n: u64, key: Key, i: u64) -> usize
+    requires { ⌜ Record n (now s) i ⌝ }
+    ensures { λ r. ⌜ r ≡ bucketAt key (now (s .entry)) i ⌝ }
+    ensures { λ r. ⌜ r < buckets ⌝ }
 {
-    if word(s, n, i, 7) == 0 {
-        return true;
+    match key {
+        Key::Sequence => (word(s, n, i, 8) % 1021) as usize,
+        Key::Identity => {
+            let sum = wrapping_add_u64(word(s, n, i, 1), word(s, n, i, 2));
+            (sum % 1021) as usize
+        }
     }
-    if word(s, n, j, 7) == 0 {
-        return true;
-    }
-    if word(s, n, i, 8) == word(s, n, j, 8) {
-        return false;
-    }
-    if word(s, n, i, 2) != word(s, n, j, 2) {
-        return true;
-    }
-    if word(s, n, i, 1) != word(s, n, j, 1) {
-        return true;
-    }
-    kind_number(word(s, n, i, 0)) != kind_number(word(s, n, j, 0))
 }
 
-// Whether record i differs from each record after it.
-fn alone_at(s: &[u64], n: u64, i: u64) -> bool
-    requires { ⌜ Record n (now s) i ⌝ }
-    ensures { λ r. ⌜ r ≡ aloneAt (now (s .entry)) n i ⌝ }
+// Whether the stops in records i and j have the same key.
+fn same_key(s: &[u64], n: u64, key: Key, i: u64, j: u64) -> bool
+    requires { ⌜ Record n (now s) i × Record n (now s) j ⌝ }
+    ensures { λ r. ⌜ r ≡ sameKey key (now (s .entry)) i j ⌝ }
 {
-    let mut j = i + 1;
-    let mut left = n - i;
-    while left > 0 {
-        if !differ_at(s, n, i, j) {
+    let Key::Identity = key else {
+        return word(s, n, i, 8) == word(s, n, j, 8);
+    };
+    if word(s, n, i, 2) != word(s, n, j, 2) {
+        return false;
+    }
+    if word(s, n, i, 1) != word(s, n, j, 1) {
+        return false;
+    }
+    kind_number(word(s, n, i, 0)) == kind_number(word(s, n, j, 0))
+}
+
+// Whether no stop before record i has its key. Record p is the last before it in the bucket of its key, and nexts leads from a stop to
+// the one before it in its bucket.
+fn is_new(s: &[u64], n: u64, key: Key, i: u64, p: u64, nexts: &[u64; 701]) -> bool
+    requires { ⌜ Record n (now s) i × Stop (now s) i ⌝ }
+    requires { ⌜ p ≡ lastOf (inBucket key (now s) (bucketAt key (now s) i)) (i - 1) ⌝ }
+    requires { ⌜ Bucketed key (now s) (i - 1) (now nexts) ⌝ }
+    ensures { λ r. ⌜ r ≡ newAt key (now (s .entry)) i ⌝ }
+{
+    let mut j = p;
+    while j > 0 {
+        if same_key(s, n, key, j, i) {
             return false;
         }
-        j = j + 1;
+        j = nexts[j as usize];
+    }
+    true
+}
+
+// Whether no two stops of n records have the same key. A stop is compared with those before it in the bucket of its key: with few,
+// unless keys were chosen to fall into one bucket; at worst with all, n * (n - 1) / 2 pairs.
+fn keys_differ(s: &[u64], n: u64, key: Key) -> bool
+    requires { ⌜ Room n (now s) ⌝ }
+    ensures { λ r. ⌜ r ≡ keysDiffer key (now (s .entry)) n ⌝ }
+{
+    let mut heads = [0u64; 1021];
+    let mut nexts = [0u64; 701];
+    let mut i: u64 = 1;
+    let mut left = n;
+    while left > 0 {
+        if word(s, n, i, 7) != 0 {
+            let h = bucket_of(s, n, key, i);
+            let p = heads[h];
+            if !is_new(s, n, key, i, p, &nexts) {
+                return false;
+            }
+            nexts[i as usize] = p;
+            heads[h] = i;
+        }
+        i = i + 1;
         left = left - 1;
     }
     true
@@ -334,16 +392,10 @@ fn all_differ(s: &[u64], n: u64) -> bool
     requires { ⌜ Room n (now s) ⌝ }
     ensures { λ r. ⌜ r ≡ allDiffer (slotsAt (now (s .entry)) 1 n) ⌝ }
 {
-    let mut i: u64 = 1;
-    let mut left = n;
-    while left > 0 {
-        if !alone_at(s, n, i) {
-            return false;
-        }
-        i = i + 1;
-        left = left - 1;
+    if !keys_differ(s, n, Key::Sequence) {
+        return false;
     }
-    true
+    keys_differ(s, n, Key::Identity)
 }
 
 // Whether the words are a well-formed store.

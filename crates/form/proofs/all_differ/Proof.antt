@@ -1,50 +1,19 @@
--- `form::all_differ` meets its contract. The loop's invariant: what is left of the test is the whole test.
-use Prim.Native.Nat.{_+_, _≤_}
-use mathlib.Core.Path.{_≡_, sym, _∙_}
-use native.Mathlib.Omega.{arith}
+-- `form::all_differ` meets its contract: the pairs are tested key by key.
+use mathlib.Core.Path.{sym, _∙_}
 use borrow.Author.Tests.{not-true, not-false}
 use borrow.Author.Needs.{needs}
-use Rattle.book.specs.Lists.{every, rising}
-use Rattle.book.specs.Words.{slotsAt, allDiffer}
-use Rattle.form.specs.Check.{aloneAt}
-use Rattle.form.proofs.Pairs.{allDiffer-alone}
-use Rattle.form.proofs.Tests.{every-end, every-no, every-yes}
+use Rattle.form.proofs.Keys.{allDiffer-keys}
+use Rattle.form.proofs.Tests.{and-fails, and-passes}
 use Rattle.form.proofs.all_differ.Statement.{statement}
 use Rattle.form.proofs.all_differ.Tie as tie
 
-abbrev Inv-loop : tie.InvT-loop
-Inv-loop s n i₀ left₀ i left = (1 ≤ i) × (i + left ≡ n + 1) × (allDiffer (slotsAt s 1 n) ≡ every (aloneAt s n) (rising i left))
+returns : tie.Need-returns
+returns c = and-fails _ _ (sym (c .before .keys-differ .ensures) ∙ not-true _ (c .if1 .taken)) ∙ allDiffer-keys _ _
 
-abbrev μ-loop : tie.MeasureT-loop
-μ-loop s n i₀ left₀ i left = left
-
-loop-holds : tie.Need-loop-holds Inv-loop μ-loop
-loop-holds c = (omega arith, omega arith, allDiffer-alone _ _ _ _ (omega arith))
-
-returns : tie.Need-returns Inv-loop μ-loop
-returns c =
-    let b = c .before .before in
-    every-no _ _ _ _ (b .before .loop .inv .2) (b .loop-test .taken) (sym (c .before .alone-at .ensures) ∙ not-true _ (c .if1 .taken))
-
-loop-again : tie.Need-loop-again Inv-loop μ-loop
-loop-again c =
-    let b = c .before .before in
-    (omega arith, omega arith, every-yes _ _ _ _ (b .before .loop .inv .2) (b .loop-test .taken) (sym (c .before .alone-at .ensures) ∙ not-false _ (c .if1 .left)))
-
-returns-2 : tie.Need-returns-2 Inv-loop μ-loop
-returns-2 c = every-end _ _ _ _ (c .before .loop .inv .2) (c .loop-test .left)
+returns-2 : tie.Need-returns-2
+returns-2 c =
+    let b = c .before in
+    and-passes _ _ _ (sym (b .before .keys-differ .ensures) ∙ not-false _ (b .if1 .left)) (c .keys-differ2 .ensures) ∙ allDiffer-keys _ _
 
 pub all-differ-spec : {M : Type 1} → statement M
-all-differ-spec =
-    tie.close
-    (tie.spec
-    Inv-loop
-    μ-loop
-    loop-holds
-    (λ c κs. search needs)
-    returns
-    (λ c. search needs)
-    (λ c. search needs)
-    (λ c. search needs)
-    loop-again
-    returns-2)
+all-differ-spec = tie.close (tie.spec (λ c κs. search needs) returns (λ c κs. search needs) returns-2)

@@ -6,15 +6,18 @@ use borrow.Author.Needs.{needs}
 use Rattle.form.specs.Check.{chainsFormed}
 use Rattle.form.proofs.Tests.{and-fails, and-passes}
 use Rattle.form.proofs.Walks.{chain-counted}
-use Rattle.form.proofs.Counts.{groupCount-rest, sides-pending, pendingCount-few}
+use Rattle.form.proofs.Counts.{groupCount-rest, sides-pending, sides-few}
 use Rattle.form.proofs.chains_formed.Statement.{statement}
 use Rattle.form.proofs.chains_formed.Tie as tie
+
+add-pending : tie.Need-add-pending
+add-pending c = omega (arith, sides-few (c .count-sides .ensures))
 
 returns : tie.Need-returns
 unfolding chainsFormed
 returns c =
     let b = c .before .before in
-    let e = sides-pending _ _ _ _ (b .before .count-of .ensures .0) (b .count-of2 .ensures .0) in
+    let e = sides-pending (b .count-sides .ensures) in
     and-fails _ _ (ne-eqb _ _ (λ q. c .if1 .taken (q ∙ sym e)))
 
 returns-2 : tie.Need-returns-2
@@ -22,7 +25,7 @@ unfolding chainsFormed
 returns-2 c =
     let e1 = c .before .before in
     let b = e1 .before .before in
-    let e = sides-pending _ _ _ _ (b .before .count-of .ensures .0) (b .count-of2 .ensures .0) in
+    let e = sides-pending (b .count-sides .ensures) in
     and-passes _ _ _ (eq-eqb _ _ (e1 .if1 .left ∙ e)) (and-fails _ _ (sym (c .before .side-formed .ensures) ∙ not-true _ (c .if2 .taken)))
 
 returns-3 : tie.Need-returns-3
@@ -31,7 +34,7 @@ returns-3 c =
     let e2 = c .before .before in
     let e1 = e2 .before .before in
     let b = e1 .before .before in
-    let e = sides-pending _ _ _ _ (b .before .count-of .ensures .0) (b .count-of2 .ensures .0) in
+    let e = sides-pending (b .count-sides .ensures) in
     and-passes _ _ _ (eq-eqb _ _ (e1 .if1 .left ∙ e))
     (and-passes _ _ _ (sym (e2 .before .side-formed .ensures) ∙ not-false _ (e2 .if2 .left))
     (and-fails _ _ (sym (c .before .side-formed2 .ensures) ∙ not-true _ (c .if3 .taken))))
@@ -39,7 +42,7 @@ returns-3 c =
 sub-walk-formed : tie.Need-sub-walk-formed
 sub-walk-formed c =
     let b = c .before .before .before .before .before .before in
-    omega (arith, sides-pending _ _ _ _ (b .before .count-of .ensures .0) (b .count-of2 .ensures .0), pendingCount-few (b .before .before .before .args .s .now) (b .before .before .before .args .n))
+    omega (arith, sides-few (b .count-sides .ensures))
 
 returns-4 : tie.Need-returns-4
 unfolding chainsFormed
@@ -48,7 +51,7 @@ returns-4 c =
     let e2 = e3 .before .before in
     let e1 = e2 .before .before in
     let b = e1 .before .before in
-    let e = sides-pending _ _ _ _ (b .before .count-of .ensures .0) (b .count-of2 .ensures .0) in
+    let e = sides-pending (b .count-sides .ensures) in
     and-passes _ _ _ (eq-eqb _ _ (e1 .if1 .left ∙ e))
     (and-passes _ _ _ (sym (e2 .before .side-formed .ensures) ∙ not-false _ (e2 .if2 .left))
     (and-passes _ _ _ (sym (e3 .before .side-formed2 .ensures) ∙ not-false _ (e3 .if3 .left))
@@ -59,8 +62,7 @@ chains-formed-spec =
     tie.close
     (tie.spec
     (λ c κs. search needs)
-    (λ c κs. search needs)
-    (λ c. search needs)
+    add-pending
     (λ c. search needs)
     returns
     (λ c κs. search needs)

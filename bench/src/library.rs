@@ -1,0 +1,74 @@
+// The compiled library, called by its plain names.
+
+use published::Side;
+use published::orderbook::desk::Stop;
+
+unsafe extern "C" {
+    fn yubtomiq_layout_store(store: *mut u64, words: usize, n: u64, tick: u64) -> u64;
+    fn yubtomiq_well_formed(store: *const u64, words: usize) -> u64;
+    fn yubtomiq_admit_trailing_stop(
+        store: *mut u64,
+        words: usize,
+        path: *mut [u64; 4],
+        kill: u64,
+        trade: *const [u64; 2],
+        id: *const [u64; 3],
+        terms: *const [u64; 4],
+        quantity: u64,
+        answer: *mut [u64; 1],
+    ) -> u64;
+    fn yubtomiq_walk(
+        store: *mut u64,
+        words: usize,
+        settings: *const [u64; 4],
+        prev: *const [u64; 2],
+        prices: *const u64,
+        count: usize,
+        elected: *mut [u64; 13],
+        room: usize,
+        answer: *mut [u64; 2],
+    ) -> u64;
+}
+
+/// Kill switch off, collar 5, namespace zero.
+const SETTINGS: [u64; 4] = [0, 5, 0, 0];
+
+#[derive(Clone)]
+pub struct Store {
+    pub words: Vec<u64>,
+    elected: Vec<[u64; 13]>,
+}
+
+impl Store {
+    pub fn with(stops: &[Stop], n: usize) -> Self {
+        let mut store = Self { words: vec![0; 9 + 11 * n], elected: vec![[0; 13]; 700] };
+        let refused = unsafe { yubtomiq_layout_store(store.words.as_mut_ptr(), store.words.len(), n as u64, 0) };
+        assert_eq!(refused, 0, "layout");
+        for stop in stops {
+            assert_eq!(store.admit(stop), 0, "admission");
+        }
+        store
+    }
+
+    pub fn admit(&mut self, stop: &Stop) -> u64 {
+        let (mut path, mut answer) = ([0; 4], [0; 1]);
+        let terms = [u64::from(stop.side == Side::Sell), stop.stop, stop.watermark, stop.trail];
+        let (words, len) = (self.words.as_mut_ptr(), self.words.len());
+        unsafe { yubtomiq_admit_trailing_stop(words, len, &mut path, 0, &[0; 2], &stop.id.words(), &terms, stop.quantity, &mut answer) }
+    }
+
+    /// How many moved and how many were elected.
+    pub fn walk(&mut self, prev: Option<u64>, prices: &[u64]) -> (u64, u64) {
+        let prev = [u64::from(prev.is_some()), prev.unwrap_or(0)];
+        let mut answer = [0; 2];
+        let (words, len) = (self.words.as_mut_ptr(), self.words.len());
+        let (elected, room) = (self.elected.as_mut_ptr(), self.elected.len());
+        let refused = unsafe { yubtomiq_walk(words, len, &SETTINGS, &prev, prices.as_ptr(), prices.len(), elected, room, &mut answer) };
+        assert_eq!(refused, 0, "walk");
+        (answer[0], answer[1])
+    }
+
+    pub fn well_formed(&self) -> bool {
+        unsafe { yubtomiq_well_formed(self.words.as_ptr(), self.words.len()) == 1 }
+    }
+}

@@ -1,0 +1,120 @@
+// Times the compiled library and the published Rust on the same inputs. README.md says what is timed and what stands in.
+
+mod library;
+mod stops;
+
+use library::Store;
+use published::orderbook::desk::Desk;
+use std::hint::black_box;
+use std::time::{Duration, Instant};
+use stops::{Plan, book_of};
+
+/// Repetitions of a timing; the middle one counts.
+const TURNS: usize = 9;
+
+/// The middle of the times of a piece of work, each on a new state.
+fn median<S>(mut fresh: impl FnMut() -> S, mut work: impl FnMut(&mut S)) -> Duration {
+    let mut times: Vec<Duration> = (0..TURNS)
+        .map(|_| {
+            let mut state = fresh();
+            let start = Instant::now();
+            work(&mut state);
+            start.elapsed()
+        })
+        .collect();
+    times.sort_unstable();
+    times[TURNS / 2]
+}
+
+fn nanoseconds(time: Duration, parts: usize) -> f64 {
+    time.as_secs_f64() * 1e9 / parts as f64
+}
+
+fn row(name: &str, parts: usize, rust: Duration, ours: Duration, target: &str) {
+    let (rust, ours) = (nanoseconds(rust, parts), nanoseconds(ours, parts));
+    println!("| {name} | {parts} | {rust:.0} | {ours:.1} | {:.1} | {target} |", rust / ours);
+}
+
+/// A run of prices: one walk, and the published run_stop_triggers at each print.
+fn run(name: &str, plan: &Plan, target: &str) {
+    let (moved, elected) = agreed(plan);
+    let rust = median(|| book_of(&plan.stops), |desk| {
+        black_box(prints(desk, plan));
+    });
+    let store = Store::with(&plan.stops, 700);
+    let ours = median(|| store.clone(), |store| {
+        black_box(store.walk(None, &plan.prices));
+    });
+    row(&format!("{name}: {moved} moves, {elected} elected"), plan.prices.len(), rust, ours, target);
+}
+
+/// The published code at each print in turn.
+fn prints(desk: &Desk, plan: &Plan) -> (u64, u64) {
+    let mut sums = (0, 0);
+    let mut prev = None;
+    for &price in &plan.prices {
+        let (moved, elected) = desk.print_and_run(prev, price);
+        sums = (sums.0 + moved as u64, sums.1 + elected as u64);
+        prev = Some(price);
+    }
+    sums
+}
+
+/// Both give the same numbers, or the timing would compare different work.
+fn agreed(plan: &Plan) -> (u64, u64) {
+    let rust = prints(&book_of(&plan.stops), plan);
+    let ours = Store::with(&plan.stops, 700).walk(None, &plan.prices);
+    assert_eq!(rust, ours, "moves and elected");
+    rust
+}
+
+/// One admission beside 699 pending stops.
+fn admission() {
+    let stops = stops::full(700);
+    let (last, others) = (stops[699], &stops[..699]);
+    let rust = median(|| book_of(others), |desk| {
+        black_box(desk.admit(last)).expect("an answer").expect("room for it");
+    });
+    let store = Store::with(others, 700);
+    let ours = median(|| store.clone(), |store| {
+        assert_eq!(black_box(store.admit(&last)), 0);
+    });
+    row("one admission, one record free", 1, rust, ours, "");
+}
+
+/// The form check of a full store against a plain copy of its words.
+fn form() {
+    const TIMES: usize = 100;
+    let store = Store::with(&stops::full(700), 700);
+    let mut copy = store.clone();
+    let copied = median(|| (), |()| {
+        for _ in 0..TIMES {
+            copy.words.copy_from_slice(black_box(&store.words));
+            black_box(&copy.words);
+        }
+    });
+    let checked = median(|| (), |()| {
+        for _ in 0..TIMES {
+            assert!(black_box(&store).well_formed());
+        }
+    });
+    let (copied, checked) = (nanoseconds(copied, TIMES), nanoseconds(checked, TIMES));
+    println!();
+    println!("| work on a full store of 700 records | ns | copies |");
+    println!("|---|---|---|");
+    println!("| a plain copy of its {} words | {copied:.0} | 1 |", store.words.len());
+    println!("| the form check (target: within 10 copies) | {checked:.0} | {:.1} |", checked / copied);
+}
+
+fn main() {
+    println!("| run | prints | Rust, ns a print | Rattle, ns a print | ratio | target |");
+    println!("|---|---|---|---|---|---|");
+    run("rising, 500 sells that all trail", &stops::steady(), "40");
+    run("rising through 500 watermarks spread ten apart", &stops::spread(), "40");
+    run("rising, 250 sells that trail and 250 buys that do not", &stops::mixed(), "40");
+    run("neither trails nor elects", &stops::idle(), "1");
+    run("falling, elects 500 one by one", &stops::falling(), "");
+    run("one print elects 500", &stops::at_once(), "10");
+    admission();
+    form();
+}
