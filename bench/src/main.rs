@@ -1,12 +1,13 @@
 // Times the compiled library and the published Rust on the same inputs. README.md says what is timed and what stands in.
 
+mod clock;
 mod library;
 mod stops;
 
 use library::Store;
 use published::orderbook::desk::Desk;
 use std::hint::black_box;
-use std::time::{Duration, Instant};
+use std::time::Duration;
 use stops::{Plan, book_of};
 
 /// Repetitions of a timing; the middle one counts.
@@ -17,9 +18,9 @@ fn median<S>(mut fresh: impl FnMut() -> S, mut work: impl FnMut(&mut S)) -> Dura
     let mut times: Vec<Duration> = (0..TURNS)
         .map(|_| {
             let mut state = fresh();
-            let start = Instant::now();
+            let start = clock::now();
             work(&mut state);
-            start.elapsed()
+            clock::now() - start
         })
         .collect();
     times.sort_unstable();

@@ -1,0 +1,25 @@
+-- `yubtomiq::yubtomiq_evaluate_pending_stops` meets its contract.
+use borrow.Author.Needs.{needs}
+use Rattle.yubtomiq.proofs.yubtomiq_evaluate_pending_stops.Statement.{statement}
+use Rattle.yubtomiq.proofs.yubtomiq_evaluate_pending_stops.Tie as tie
+
+returns : tie.Need-returns
+returns c =
+    let e = c .before .before .before .before .before in
+    let p = e .before .before .before in
+    let s = p .before in
+    let told = rw (e .evaluate-pending-stops .ensures .0) at (c .of-pass .ensures) in
+    rw (← s .settings-of .ensures, ← p .prints-of .ensures)
+    (told .0, (e .evaluate-pending-stops .ensures .1 .0, (e .evaluate-pending-stops .ensures .1 .1, told .1)))
+
+pub yubtomiq-evaluate-pending-stops-spec : {M : Type 1} → statement M
+yubtomiq-evaluate-pending-stops-spec =
+    tie.close
+    (tie.spec
+    (λ c κs. search needs)
+    (λ c κs. search needs)
+    (λ c κs. search needs)
+    (λ c κs. search needs)
+    (λ c. search needs)
+    (λ c. search needs)
+    returns)

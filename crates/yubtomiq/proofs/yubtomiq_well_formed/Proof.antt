@@ -1,0 +1,15 @@
+-- `yubtomiq::yubtomiq_well_formed` meets its contract.
+use borrow.Author.Needs.{needs}
+use Rattle.yubtomiq.proofs.yubtomiq_well_formed.Statement.{statement}
+use Rattle.yubtomiq.proofs.yubtomiq_well_formed.Tie as tie
+
+returns : tie.Need-returns
+returns c = rw (c .before .well-formed .ensures) at (c .flag .ensures)
+
+pub yubtomiq-well-formed-spec : {M : Type 1} → statement M
+yubtomiq-well-formed-spec =
+    tie.close
+    (tie.spec
+    (λ c κs. search needs)
+    (λ c κs. search needs)
+    returns)

@@ -1,0 +1,226 @@
+/*
+ * Tests of the static library from C: the layout of what is passed, each number that only C can get (14, 255), and that a refused call and
+ * the words and entries beyond what is written stay. Each check prints what differs; the exit status is 1 if any did.
+ */
+#include "../yubtomiq.h"
+
+#include <inttypes.h>
+#include <stdio.h>
+#include <string.h>
+
+static int made, failed;
+
+static void same(const char *what, uint64_t got, uint64_t expected) {
+    made++;
+    if (got != expected) {
+        failed++;
+        printf("%s: got %" PRIu64 ", expected %" PRIu64 "\n", what, got, expected);
+    }
+}
+
+static void same_words(const char *what, const void *got, const void *expected, size_t words) {
+    const uint64_t *g = got, *e = expected;
+    for (size_t i = 0; i < words; i++) {
+        char place[80];
+        snprintf(place, sizeof place, "%s, word %zu", what, i);
+        same(place, g[i], e[i]);
+    }
+}
+
+enum { RECORDS = 4, WORDS = 9 + 11 * RECORDS, LENT = WORDS + 2 };
+
+static const yubtomiq_price NONE = {0, 0};
+static const yubtomiq_settings PLAIN = {0, 0, 0, 0};
+
+static yubtomiq_id sequential(uint64_t number) {
+    return (yubtomiq_id){YUBTOMIQ_SEQUENTIAL, 0, number};
+}
+
+/* A store of four records and two words behind it, with two sells and a buy: identities 1, 2, 3, quantities 10, 20, 30. */
+static void lay_out(uint64_t words[LENT]) {
+    static const yubtomiq_terms terms[3] = {
+        {YUBTOMIQ_SELL, 95, 100, 5}, {YUBTOMIQ_SELL, 90, 100, 10}, {YUBTOMIQ_BUY, 110, 100, 10}};
+    words[WORDS] = 77;
+    words[WORDS + 1] = 78;
+    same("layout", yubtomiq_layout_store(words, LENT, RECORDS, 5), 0);
+    for (uint64_t i = 0; i < 3; i++) {
+        yubtomiq_path path = {0, 0, 0, 0};
+        yubtomiq_id id = sequential(i + 1);
+        uint64_t sequence = 99;
+        same("admission", yubtomiq_admit_trailing_stop(words, LENT, &path, 0, &NONE, &id, &terms[i], 10 * (i + 1), &sequence), 0);
+        same("sequence", sequence, i);
+    }
+    same("well formed", yubtomiq_well_formed(words, LENT), 1);
+    same("beyond", words[WORDS], 77);
+}
+
+static void refused_values(void) {
+    uint64_t words[LENT], before[LENT], sequence = 99;
+    lay_out(words);
+    memcpy(before, words, sizeof words);
+    const yubtomiq_id id = sequential(1), unknown = {3, 0, 1};
+    const yubtomiq_terms terms = {YUBTOMIQ_SELL, 90, 100, 10}, no_side = {2, 90, 100, 10};
+    const yubtomiq_update change = {4, 0, 0, 0}, side = {YUBTOMIQ_REPLACE, 2, 90, 1};
+    yubtomiq_path path = {1, 1, 7, 8}, open = {2, 1, 7, 8}, prev = {1, 2, 7, 8};
+    yubtomiq_stop stop, kept = {1, 2, 3, 4, 5, 6, 7, 8, 9};
+    yubtomiq_found found = {11, {1, 2, 3, 4, 5, 6, 7, 8, 9}};
+    yubtomiq_script_entry entry = {6, 6, 6, 6, 6};
+    yubtomiq_pass_counts counts = {5, 5, 5};
+    yubtomiq_elected elected[3];
+    yubtomiq_terms after = {9, 9, 9, 9};
+    yubtomiq_adjustment adjustment = {9, 9, 9};
+    yubtomiq_price limit = {9, 9};
+    yubtomiq_id child = {9, 9, 9};
+    stop = kept;
+    same("kind", yubtomiq_admit_trailing_stop(words, LENT, &path, 1, &NONE, &unknown, &terms, 0, &sequence), 255);
+    same("side", yubtomiq_admit_trailing_stop(words, LENT, &path, 1, &NONE, &id, &no_side, 0, &sequence), 255);
+    same("open", yubtomiq_admit_trailing_stop(words, LENT, &open, 1, &NONE, &id, &terms, 0, &sequence), 255);
+    same("prev", yubtomiq_admit_trailing_stop(words, LENT, &prev, 1, &NONE, &id, &terms, 0, &sequence), 255);
+    same("then the store", yubtomiq_admit_trailing_stop(words, 8, &path, 1, &NONE, &id, &terms, 0, &sequence), 1);
+    same("then the kill switch", yubtomiq_admit_trailing_stop(words, LENT, &path, 2, &NONE, &id, &terms, 0, &sequence), 3);
+    same("change", yubtomiq_update_pending_stop(words, LENT, &id, &change, &NONE, &stop), 255);
+    same("new side", yubtomiq_update_pending_stop(words, LENT, &id, &side, &NONE, &stop), 255);
+    same("kind of a change", yubtomiq_update_pending_stop(words, LENT, &unknown, &side, &NONE, &stop), 255);
+    same("kind of a cancel", yubtomiq_cancel_pending_stop(words, LENT, &unknown, &stop), 255);
+    same("kind of a search", yubtomiq_pending_stop_order(words, LENT, &unknown, &found), 255);
+    same("path of a clear", yubtomiq_clear(words, LENT, &open), 255);
+    same("path of a print", yubtomiq_record_print(&open, 1, &NONE, 1), 255);
+    same("path taken", yubtomiq_take_path(&prev, &NONE, &entry), 255);
+    same("path reset", yubtomiq_reset_path(&prev), 255);
+    same("path of a run", yubtomiq_run_stop_triggers(words, LENT, &open, &PLAIN, words, 0, &NONE, elected, 3, &counts), 255);
+    same("terms", yubtomiq_trailed(&no_side, 1, &after), 255);
+    same("elected by", yubtomiq_elected_by(&no_side, 1), 255);
+    same("inconsistency", yubtomiq_inconsistency(&no_side), 255);
+    same("preview", yubtomiq_calculate_trailing_stop_price(2, 1, 1, 1, 1, &adjustment), 255);
+    same("limit", yubtomiq_limit_price(1, 2, 1, &limit), 255);
+    same("child", yubtomiq_stop_trigger_order_id(&(yubtomiq_namespace){0, 0}, &unknown, &child), 255);
+    same_words("the store stays", words, before, LENT);
+    same_words("the path stays", &open, &(yubtomiq_path){2, 1, 7, 8}, 4);
+    same_words("the other path stays", &prev, &(yubtomiq_path){1, 2, 7, 8}, 4);
+    same_words("the known path stays", &path, &(yubtomiq_path){1, 1, 7, 8}, 4);
+    same_words("the stop stays", &stop, &kept, 9);
+    same("the sequence stays", sequence, 99);
+    same("the found flag stays", found.found, 11);
+    same("the entry stays", entry.printed, 6);
+    same("the counts stay", counts.used, 5);
+    same("the rest stays", after.side + adjustment.adjusted + limit.present + child.kind, 36);
+}
+
+static void lists(void) {
+    uint64_t words[LENT];
+    lay_out(words);
+    const yubtomiq_prints prints = {1, 96, 94, 92};
+    const uint64_t prices[2] = {94, 92};
+    const yubtomiq_price prev = {1, 96};
+    const yubtomiq_settings settings = {0, 3, 0, 0};
+    yubtomiq_elected elected[4];
+    yubtomiq_moved moved[7];
+    yubtomiq_counts counts = {5, 5};
+    yubtomiq_pass_counts pass = {5, 5, 5};
+    memset(elected, 1, sizeof elected);
+    memset(moved, 1, sizeof moved);
+    const yubtomiq_elected entry = elected[0];
+    same("elected short", yubtomiq_segment(words, LENT, &settings, &prints, elected, 2, moved, 6, &counts), 14);
+    same("moved short", yubtomiq_segment(words, LENT, &settings, &prints, elected, 3, moved, 5, &counts), 14);
+    same("walk short", yubtomiq_walk(words, LENT, &settings, &prev, prices, 2, elected, 2, &counts), 14);
+    same("pass short", yubtomiq_evaluate_pending_stops(words, LENT, &settings, prices, 0, &prints, elected, 2, &pass), 14);
+    same("counts stay", counts.moves + counts.elected + pass.moves + pass.elected + pass.used, 25);
+    same("segment", yubtomiq_segment(words, LENT, &settings, &prints, elected, 4, moved, 7, &counts), 0);
+    same("moves", counts.moves, 2);
+    same("elected", counts.elected, 1);
+    const yubtomiq_elected first = {2, 0, 1, YUBTOMIQ_SELL, 95, 10, 0, 94, 1, 92, elected[0].child_high, elected[0].child_low, 0};
+    same_words("the elected entry", &elected[0], &first, 13);
+    same_words("the next entry stays", &elected[1], &entry, 13);
+    same_words("the first move", &moved[0], &(yubtomiq_moved){2, 0, 3, 104}, 4);
+    same_words("the second move", &moved[1], &(yubtomiq_moved){2, 0, 3, 102}, 4);
+    same_words("the next move stays", &moved[2], &entry, 4);
+    yubtomiq_id child = {9, 9, 9};
+    same("child", yubtomiq_stop_trigger_order_id(&(yubtomiq_namespace){0, 0}, &(yubtomiq_id){2, 0, 1}, &child), 0);
+    same_words("the child identity", &child, &(yubtomiq_id){0, elected[0].child_high, elected[0].child_low}, 3);
+    same("beyond", words[WORDS], 77);
+    same("beyond", words[WORDS + 1], 78);
+}
+
+static void answers(void) {
+    uint64_t words[LENT];
+    lay_out(words);
+    yubtomiq_stop stop;
+    yubtomiq_found found;
+    yubtomiq_totals totals;
+    yubtomiq_id id = sequential(2), none = sequential(9);
+    yubtomiq_update update = {YUBTOMIQ_REPLACE, YUBTOMIQ_BUY, 105, 7};
+    same("find", yubtomiq_pending_stop_order(words, LENT, &id, &found), 0);
+    same_words("found", &found, &(yubtomiq_found){1, {2, 0, 2, YUBTOMIQ_SELL, 90, 100, 10, 20, 1}}, 10);
+    same("find none", yubtomiq_pending_stop_order(words, LENT, &none, &found), 0);
+    same_words("not found", &found, &(yubtomiq_found){0, {0, 0, 0, 0, 0, 0, 0, 0, 0}}, 10);
+    same("change", yubtomiq_update_pending_stop(words, LENT, &id, &update, &NONE, &stop), 0);
+    same_words("changed", &stop, &(yubtomiq_stop){2, 0, 2, YUBTOMIQ_BUY, 105, 100, 10, 7, 3}, 9);
+    same("totals", yubtomiq_pending_stop_quantity(words, LENT, &totals), 0);
+    same_words("sums", &totals, &(yubtomiq_totals){0, 10, 0, 37}, 4);
+    same("cancel", yubtomiq_cancel_pending_stop(words, LENT, &id, &stop), 0);
+    same_words("cancelled", &stop, &(yubtomiq_stop){2, 0, 2, YUBTOMIQ_BUY, 105, 100, 10, 7, 3}, 9);
+    same("cancel again", yubtomiq_cancel_pending_stop(words, LENT, &id, &stop), 12);
+    yubtomiq_path path = {1, 0, 7, 8};
+    same("clear", yubtomiq_clear(words, LENT, &path), 0);
+    same_words("path", &path, &(yubtomiq_path){0, 0, 7, 8}, 4);
+    same("pending", words[1], 0);
+}
+
+static void path_and_run(void) {
+    uint64_t words[LENT];
+    lay_out(words);
+    const yubtomiq_price prev = {9, 96}, trade = {1, 92};
+    const yubtomiq_script_entry script[2] = {{1, 1, 92, 90, 90}, {0, 1, 5, 5, 5}};
+    yubtomiq_path path = {0, 0, 0, 0}, other;
+    yubtomiq_script_entry entry;
+    yubtomiq_elected elected[3];
+    yubtomiq_pass_counts counts;
+    same("record", yubtomiq_record_print(&path, words[1], &prev, 94), 0);
+    same_words("recorded", &path, &(yubtomiq_path){1, 1, 96, 94}, 4);
+    other = path;
+    same("take", yubtomiq_take_path(&other, &trade, &entry), 0);
+    same_words("taken", &entry, &(yubtomiq_script_entry){1, 1, 96, 94, 92}, 5);
+    same("take again", yubtomiq_take_path(&other, &trade, &entry), 0);
+    same_words("closed", &entry, &(yubtomiq_script_entry){0, 0, 0, 0, 0}, 5);
+    same("half an entry", yubtomiq_run_stop_triggers(words, LENT, &path, &PLAIN, &script[0].printed, 4, &trade, elected, 3, &counts), 15);
+    same("run", yubtomiq_run_stop_triggers(words, LENT, &path, &PLAIN, &script[0].printed, 10, &trade, elected, 3, &counts), 0);
+    same_words("counts", &counts, &(yubtomiq_pass_counts){3, 2, 2}, 3);
+    same("first", elected[0].low, 1);
+    same("second", elected[1].low, 2);
+    same("second's trigger", elected[1].trigger, 90);
+    same_words("reset", &path, &(yubtomiq_path){0, 1, 96, 94}, 4);
+    same("left", words[1], 1);
+    same("reset", yubtomiq_reset_path(&path), 0);
+}
+
+static void values(void) {
+    yubtomiq_terms after;
+    yubtomiq_adjustment adjustment;
+    yubtomiq_price limit;
+    same("trailed", yubtomiq_trailed(&(yubtomiq_terms){YUBTOMIQ_SELL, 90, 100, 10}, 105, &after), 0);
+    same_words("terms", &after, &(yubtomiq_terms){YUBTOMIQ_SELL, 95, 105, 10}, 4);
+    same("elected", yubtomiq_elected_by(&(yubtomiq_terms){YUBTOMIQ_BUY, 105, 100, 5}, 105), 1);
+    same("not elected", yubtomiq_elected_by(&(yubtomiq_terms){YUBTOMIQ_BUY, 105, 100, 5}, 104), 0);
+    same("inconsistent", yubtomiq_inconsistency(&(yubtomiq_terms){YUBTOMIQ_SELL, 101, 100, 5}), 6);
+    same("preview", yubtomiq_calculate_trailing_stop_price(YUBTOMIQ_SELL, 90, 10, 100, 105, &adjustment), 0);
+    same_words("adjustment", &adjustment, &(yubtomiq_adjustment){1, 95, 105}, 3);
+    same("limit", yubtomiq_limit_price(5, YUBTOMIQ_SELL, 95, &limit), 0);
+    same_words("limit price", &limit, &(yubtomiq_price){1, 90}, 2);
+    same("no collar", yubtomiq_limit_price(0, YUBTOMIQ_SELL, 95, &limit), 0);
+    same_words("no limit", &limit, &(yubtomiq_price){0, 0}, 2);
+    same("zero collar", yubtomiq_check_collar(0), 17);
+    same("zero collar on a tick", yubtomiq_check_tick_size(0, 5), 17);
+    same("off the tick", yubtomiq_check_tick_size(7, 5), 18);
+    same("on the tick", yubtomiq_check_tick_size(10, 5), 0);
+    same("too many records", yubtomiq_layout_store((uint64_t[9]){0}, 9, 701, 0), 2);
+}
+
+int main(void) {
+    refused_values();
+    lists();
+    answers();
+    path_and_run();
+    values();
+    printf("test.c: %d checks, %d failed\n", made, failed);
+    return failed != 0;
+}

@@ -1,0 +1,298 @@
+//! Tests of the Rust face over the static library: document 01's examples, each refusal once, and what the calls do to store and path.
+//! Each check prints what differs; the exit status is 1 if any did.
+
+#[path = "../rust/yubtomiq.rs"]
+mod yubtomiq;
+
+use std::fmt::Debug;
+use yubtomiq::*;
+
+const MAX: u64 = u64::MAX;
+
+/// How many checks were made, and how many failed.
+#[derive(Default)]
+struct Checks {
+    made: u32,
+    failed: u32,
+}
+
+impl Checks {
+    fn same<T: PartialEq + Debug>(&mut self, what: &str, got: T, expected: T) {
+        self.made += 1;
+        if got != expected {
+            self.failed += 1;
+            println!("{what}: got {got:?}, expected {expected:?}");
+        }
+    }
+
+    fn refused<T: PartialEq + Debug>(&mut self, got: Result<T, Refusal>, expected: Refusal) {
+        self.same(&format!("refusal {}", expected.number()), got, Err(expected));
+    }
+}
+
+fn terms(side: Side, stop: u64, watermark: u64, trail: u64) -> StopTerms {
+    StopTerms { side, stop, watermark, trail }
+}
+
+fn sell(stop: u64, watermark: u64, trail: u64) -> StopTerms {
+    terms(Side::Sell, stop, watermark, trail)
+}
+
+fn buy(stop: u64, watermark: u64, trail: u64) -> StopTerms {
+    terms(Side::Buy, stop, watermark, trail)
+}
+
+/// A store of n records with these stops, sequential identities 1, 2, .. and quantities 10, 20, ..
+fn store(n: u64, tick: u64, stops: &[StopTerms]) -> Store {
+    let mut s = Store::new(n, tick).expect("a layout in range");
+    for (i, &t) in stops.iter().enumerate() {
+        let i = i as u64 + 1;
+        let admitted = s.admit_trailing_stop(&mut PrintPath::default(), false, None, Id::sequential(i), t, 10 * i);
+        admitted.expect("an admission in order");
+    }
+    s
+}
+
+fn prints(prev: Option<u64>, first: u64, last: u64) -> Prints {
+    Prints { prev, first, last }
+}
+
+fn names(elected: &[Elected]) -> Vec<(u64, u64)> {
+    elected.iter().map(|e| (e.id.low, e.trigger)).collect()
+}
+
+// ---------------------------------------------------------------------
+// Terms, limit and child
+
+fn terms_examples(c: &mut Checks) {
+    c.same("sell at 105", sell(90, 100, 10).trailed(105), sell(95, 105, 10));
+    c.same("sell at 100", sell(90, 100, 10).trailed(100), sell(90, 100, 10));
+    c.same("sell, trail 200, at 105", sell(90, 100, 200).trailed(105), sell(90, 105, 200));
+    c.same("sell at 101", sell(95, 100, 10).trailed(101), sell(95, 101, 10));
+    c.same("buy at 95", buy(110, 100, 10).trailed(95), buy(105, 95, 10));
+    c.same("buy at the top", buy(MAX, MAX, 10).trailed(MAX - 2), buy(MAX, MAX - 2, 10));
+    c.same("sell 95 at 95", sell(95, 100, 5).elected_by(95), true);
+    c.same("sell 95 at 96", sell(95, 100, 5).elected_by(96), false);
+    c.same("buy 105 at 105", buy(105, 100, 5).elected_by(105), true);
+    c.same("buy 105 at 104", buy(105, 100, 5).elected_by(104), false);
+    c.same("consistent", sell(95, 100, 5).inconsistency(), None);
+    c.same("trail zero", buy(105, 100, 0).inconsistency(), Some(Refusal::ZeroTrail));
+    c.same("buy below its watermark", buy(99, 100, 5).inconsistency(), Some(Refusal::StopBeyondWatermark));
+}
+
+fn limit_examples(c: &mut Checks) {
+    c.same("preview", calculate_trailing_stop_price(Side::Sell, 90, 10, 100, 105), Some((95, 105)));
+    c.same("no preview", calculate_trailing_stop_price(Side::Sell, 95, 10, 100, 101), None);
+    c.same("sell 95 collar 5", limit_price(collar(5).ok(), Side::Sell, 95), Some(90));
+    c.same("sell 95 collar 100", limit_price(collar(100).ok(), Side::Sell, 95), Some(0));
+    c.same("buy at the top, collar 1", limit_price(collar(1).ok(), Side::Buy, MAX), Some(MAX));
+    c.same("no collar", limit_price(None, Side::Buy, 95), None);
+    let five = collar(5).expect("a collar");
+    c.same("tick 0", check_tick_size(five, 0), Ok(()));
+    c.refused(collar(0), Refusal::ZeroCollar);
+    c.refused(check_tick_size(five, 2), Refusal::CollarOffTick);
+    let id = Id { kind: IdKind::Ulid, high: 0x0123_4567_89ab_cdef, low: 0xfedc_ba98_7654_3210 };
+    let dns = Namespace { high: 0x6ba7_b810_9dad_11d1, low: 0x80b4_00c0_4fd4_30c8 };
+    let child = stop_trigger_order_id(dns, id);
+    // Worked out apart: SHA-1 of the namespace and the name, with version and variant put in.
+    c.same("child", child, Id { kind: IdKind::Uuid, high: 0xb47b_8480_30fa_5d5f, low: 0x96a4_18cd_ea2a_d294 });
+}
+
+// ---------------------------------------------------------------------
+// The store
+
+fn refusals(c: &mut Checks) {
+    let mut closed = PrintPath::default();
+    let mut s = store(3, 5, &[sell(95, 100, 5), buy(105, 100, 5)]);
+    let before = s.clone();
+    let one = Id::sequential(1);
+    let three = Id::sequential(3);
+    let ok = sell(90, 100, 10);
+    let mut admit = |s: &mut Store, kill, trade, id, t, q| s.admit_trailing_stop(&mut closed, kill, trade, id, t, q);
+    c.refused(Store::new(0, 0).map(|_| ()), Refusal::LayoutOutOfRange);
+    c.refused(Store::new(701, 0).map(|_| ()), Refusal::LayoutOutOfRange);
+    c.refused(admit(&mut s, true, None, three, ok, 1), Refusal::KillSwitchActive);
+    c.refused(admit(&mut s, false, None, three, ok, 0), Refusal::ZeroQuantity);
+    c.refused(admit(&mut s, false, None, three, sell(90, 100, 0), 1), Refusal::ZeroTrail);
+    c.refused(admit(&mut s, false, None, three, sell(101, 100, 5), 1), Refusal::StopBeyondWatermark);
+    c.refused(admit(&mut s, false, Some(90), three, ok, 1), Refusal::StopWouldTrigger);
+    c.refused(admit(&mut s, false, None, one, ok, 1), Refusal::DuplicateOrderId);
+    c.refused(admit(&mut s, false, None, three, sell(90, 100, 12), 1), Refusal::TrailOffTick);
+    c.refused(s.cancel_pending_stop(three), Refusal::OrderNotFound);
+    c.refused(s.update_pending_stop(one, Update::Price(95), None), Refusal::SamePrice);
+    c.refused(s.evaluate_pending_stops(Settings::default(), &[1, 0], prints(None, 100, 100)), Refusal::InvalidScript);
+    c.refused(s.walk(Settings::default(), None, &[]), Refusal::PriceCountOutOfRange);
+    c.refused(s.walk(Settings::default(), None, &[100; 4097]), Refusal::PriceCountOutOfRange);
+    c.same("a refused call alters nothing", &s, &before);
+    c.same("the third admission", admit(&mut s, false, None, three, ok, 1), Ok(2));
+    c.refused(admit(&mut s, false, None, Id::sequential(4), ok, 1), Refusal::NoFreeRecord);
+    let mut words = store(3, 0, &[]).into_words();
+    words[2] = MAX;
+    let mut last = Store::from_words(words);
+    c.refused(admit(&mut last, false, None, one, ok, 1), Refusal::SequenceExhausted);
+}
+
+fn damaged(c: &mut Checks) {
+    let mut words = store(3, 0, &[sell(95, 100, 5)]).into_words();
+    words[1] = 2;
+    for words in [words, vec![], vec![MAX; 20]] {
+        let mut s = Store::from_words(words.clone());
+        let mut path = PrintPath { open: true, has_prev: true, prev: 7, first: 8 };
+        let one = Id::sequential(1);
+        let no = Refusal::StoreNotWellFormed;
+        c.same("damaged", s.is_well_formed(), false);
+        c.refused(s.admit_trailing_stop(&mut path, true, None, one, sell(0, 0, 0), 0), no);
+        c.refused(s.update_pending_stop(one, Update::Quantity(0), None), no);
+        c.refused(s.cancel_pending_stop(one), no);
+        c.refused(s.pending_stop_order(one), no);
+        c.refused(s.pending_stop_quantity(), no);
+        c.refused(s.clear(&mut path), no);
+        c.refused(s.segment(Settings::default(), prints(None, 1, 1)), no);
+        c.refused(s.walk(Settings::default(), None, &[]), no);
+        c.refused(s.evaluate_pending_stops(Settings::default(), &[2], prints(None, 1, 1)), no);
+        c.refused(s.run_stop_triggers(&mut path, Settings::default(), &[2], None), no);
+        c.same("its words", s.into_words(), words);
+        c.same("the path", path, PrintPath { open: true, has_prev: true, prev: 7, first: 8 });
+    }
+}
+
+fn changes(c: &mut Checks) {
+    let mut s = store(4, 0, &[sell(95, 100, 5), buy(105, 100, 5)]);
+    let one = Id::sequential(1);
+    let at = |terms, quantity, seq| Stop { id: one, terms, quantity, seq };
+    c.same("find", s.pending_stop_order(one), Ok(Some(at(sell(95, 100, 5), 10, 0))));
+    c.same("find none", s.pending_stop_order(Id::sequential(9)), Ok(None));
+    c.same("totals", s.pending_stop_quantity(), Ok(Totals { sell: 10, buy: 20 }));
+    c.same("quantity", s.update_pending_stop(one, Update::Quantity(MAX), None), Ok(at(sell(95, 100, 5), MAX, 0)));
+    c.same("price", s.update_pending_stop(one, Update::Price(96), None), Ok(at(sell(96, 100, 5), MAX, 2)));
+    let both = Update::PriceAndQuantity { price: 96, quantity: 7 };
+    c.same("price and quantity", s.update_pending_stop(one, both, None), Ok(at(sell(96, 100, 5), 7, 3)));
+    let replace = Update::Replace { side: Side::Buy, price: 104, quantity: MAX };
+    c.same("replace", s.update_pending_stop(one, replace, None), Ok(at(buy(104, 100, 5), MAX, 4)));
+    c.same("two words", s.pending_stop_quantity(), Ok(Totals { sell: 0, buy: MAX as u128 + 20 }));
+    c.same("pending", s.pending(), 2);
+    c.same("zero cancels", s.update_pending_stop(one, Update::Quantity(0), None), Ok(at(buy(104, 100, 5), MAX, 4)));
+    c.same("one is left", s.pending(), 1);
+    let mut path = PrintPath { open: true, has_prev: true, prev: 7, first: 8 };
+    c.same("clear", s.clear(&mut path), Ok(()));
+    c.same("cleared", &s, &store(4, 0, &[]));
+    c.same("path closed", path, PrintPath { open: false, has_prev: true, prev: 7, first: 8 });
+}
+
+// ---------------------------------------------------------------------
+// Evaluation
+
+fn forecast_example(c: &mut Checks) {
+    let words = vec![2, 2, 2, 0, 1, 1, 0, 0, 0, 2, 0, 7, 1, 98, 100, 10, 1, 0, 2, 2, 2, 0, 9, 1, 95, 100, 10, 1, 1, 0, 0];
+    let mut s = Store::from_words(words.clone());
+    c.same("well formed", s.is_well_formed(), true);
+    let walk = s.walk(Settings::default(), None, &[100, 97, 94]).expect("a walk");
+    c.same("walk", names(&walk.elected), vec![(7, 97), (9, 94)]);
+    let ends = Store::from_words(words).segment(Settings::default(), prints(None, 100, 94)).expect("a segment");
+    c.same("ends", names(&ends.elected), vec![(7, 94), (9, 94)]);
+    let stop = (ends.elected[0].stop, ends.elected[0].seq, ends.elected[1].stop, ends.elected[1].seq);
+    c.same("stops and sequences", stop, (98, 0, 95, 1));
+}
+
+fn order_example(c: &mut Checks) {
+    let both = [sell(100, 100, 10), buy(100, 100, 10)];
+    for (last, order) in [(101, vec![(2, 100), (1, 100)]), (100, vec![(1, 100), (2, 100)])] {
+        let done = store(2, 0, &both).segment(Settings::default(), prints(None, 100, last)).expect("a segment");
+        c.same("which side first", names(&done.elected), order);
+    }
+}
+
+fn turning_example(c: &mut Checks) {
+    let mut s = store(1, 0, &[sell(95, 100, 5)]);
+    let mut ends = s.clone();
+    let walk = s.walk(Settings::default(), None, &[100, 110, 100]).expect("a walk");
+    c.same("a turning run elects", names(&walk.elected), vec![(1, 100)]);
+    c.same("its moves", walk.moves, 1);
+    let ends = ends.segment(Settings::default(), prints(None, 100, 100)).expect("a segment");
+    c.same("its ends do not", ends, Segment { moved: vec![], elected: vec![] });
+}
+
+fn run_and_ends(c: &mut Checks) {
+    let stops = [sell(95, 100, 5), sell(97, 99, 3), buy(104, 101, 2), buy(102, 100, 2), sell(80, 100, 20), buy(106, 103, 3)];
+    let settings = Settings { kill: false, collar: collar(2).ok(), namespace: Namespace { high: 1, low: 2 } };
+    for run in [&[100, 98, 97, 96, 90][..], &[99, 101, 102, 107], &[100], &[104, 104, 103]] {
+        let mut walked = store(8, 0, &stops);
+        let mut ends = walked.clone();
+        let walk = walked.walk(settings, Some(100), run).expect("a walk");
+        let (first, last) = (run[0], run[run.len() - 1]);
+        let segment = ends.segment(settings, prints(Some(100), first, last)).expect("a segment");
+        let alike = |e: &[Elected]| e.iter().map(|e| Elected { trigger: 0, ..*e }).collect::<Vec<_>>();
+        c.same("elected by the run and by its ends", alike(&walk.elected), alike(&segment.elected));
+        c.same("the stores after them", &walked, &ends);
+        c.same("well formed", walked.is_well_formed(), true);
+        c.same("pending and elected", walked.pending() + walk.elected.len() as u64, 6);
+        for e in &walk.elected {
+            c.same("limit", e.limit, limit_price(settings.collar, e.side, e.stop));
+            c.same("child", e.child, stop_trigger_order_id(settings.namespace, e.id));
+            c.same("child pending", e.child_pending, false);
+        }
+    }
+}
+
+fn moved_list(c: &mut Checks) {
+    let mut s = store(3, 0, &[sell(90, 100, 10), sell(70, 95, 30)]);
+    let done = s.segment(Settings { kill: true, ..Settings::default() }, prints(None, 105, 108)).expect("a segment");
+    let moved: Vec<_> = done.moved.iter().map(|m| (m.id.low, m.stop)).collect();
+    c.same("moved twice", moved, vec![(2, 75), (1, 95), (1, 98), (2, 78)]);
+    c.same("under the kill switch", done.elected, vec![]);
+}
+
+fn passes(c: &mut Checks) {
+    let stops = [sell(95, 100, 5), sell(90, 100, 10), buy(110, 100, 10)];
+    let script = script_words(&[Some(prints(Some(95), 92, 90)), None]);
+    let mut s = store(3, 0, &stops);
+    let mut run = s.clone();
+    let done = s.evaluate_pending_stops(Settings::default(), &script, prints(Some(100), 95, 95)).expect("a pass");
+    c.same("the second stems from the first's prints", names(&done.elected), vec![(1, 95), (2, 90)]);
+    c.same("used", done.used, 2);
+    c.same("one is left", s.pending(), 1);
+
+    let mut path = PrintPath::default();
+    path.record_print(0, Some(100), 95);
+    c.same("nothing pending", path, PrintPath::default());
+    path.record_print(run.pending(), Some(100), 95);
+    path.record_print(run.pending(), Some(95), 94);
+    c.same("the first print stays", path, PrintPath { open: true, has_prev: true, prev: 100, first: 95 });
+    let same = run.run_stop_triggers(&mut path, Settings::default(), &script, Some(95));
+    c.same("the run passes", same, Ok(done));
+    c.same("its store", &run, &s);
+    c.same("its path", path, PrintPath { open: false, has_prev: true, prev: 100, first: 95 });
+    let idle = run.run_stop_triggers(&mut path, Settings::default(), &[], Some(1));
+    c.same("a closed path", idle, Ok(Pass { moves: 0, elected: vec![], used: 0 }));
+    c.same("nothing done", &run, &s);
+}
+
+fn paths(c: &mut Checks) {
+    let mut path = PrintPath::default();
+    c.same("closed", path.take(Some(5)), None);
+    path.record_print(1, None, 7);
+    c.same("no last trade", path.take(None), Some(prints(None, 7, 7)));
+    path.record_print(1, Some(6), 8);
+    c.same("last trade", path.take(Some(9)), Some(prints(Some(6), 8, 9)));
+    path.record_print(1, None, 3);
+    path.reset();
+    c.same("an absent prev is 0", path, PrintPath { open: false, has_prev: false, prev: 0, first: 3 });
+}
+
+fn main() {
+    let mut c = Checks::default();
+    terms_examples(&mut c);
+    limit_examples(&mut c);
+    refusals(&mut c);
+    damaged(&mut c);
+    changes(&mut c);
+    forecast_example(&mut c);
+    order_example(&mut c);
+    turning_example(&mut c);
+    run_and_ends(&mut c);
+    moved_list(&mut c);
+    passes(&mut c);
+    paths(&mut c);
+    println!("test.rs: {} checks, {} failed", c.made, c.failed);
+    std::process::exit(if c.failed == 0 { 0 } else { 1 });
+}
