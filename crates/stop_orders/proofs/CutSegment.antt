@@ -2,12 +2,9 @@
 use Prim.Native.Nat.{ℕ, _≤_, _*_, min, zero-le}
 use native.Mathlib.Omega.{arith}
 use mathlib.Core.Path.{_≡_, refl, sym, ap, subst, _∙_}
-use mathlib.Core.Bool.{_&&_}
-use mathlib.Core.List.{List, [], _∷_, _++_, map, append-assoc}
+use mathlib.Core.List.{List, [], _∷_, _++_, map}
 use borrow.Table.Steps.{cases}
-use lib.Dec.{leb}
-use lib.ListN.{length, take, drop, length-map}
-use lib.Seq.{take-at}
+use lib.ListN.{length, take, drop}
 use Rattle.error.specs.Answer.{Answer}
 use Rattle.book.proofs.Evaluating.{segment-moves}
 use Rattle.book.proofs.Questions.{decide-outcomes}
@@ -23,7 +20,7 @@ use Rattle.evaluation.proofs.Outcomes.{segment-fills, segment-moved}
 use Rattle.evaluation.specs.Listed.{SegmentListed, segmentListed}
 use Rattle.listing.specs.Entries.{movedWords}
 use Rattle.stop_orders.specs.Records.{electedOf, movedOf, electedCount, movedCount}
-use Rattle.stop_orders.proofs.Cut.{pending-few, written-read, part-length, cut-leb, decided}
+use Rattle.stop_orders.proofs.Cut.{pending-few, cut-leb, decided, written-back, written-read, part-length}
 use Rattle.stop_orders.proofs.Reading.{moved-read}
 
 moves-read : (ms : List Moved) → map movedOf (map movedWords ms) ≡ ms
@@ -31,11 +28,7 @@ moves-read [] = refl
 moves-read (m ∷ ms) = ap (_∷ map movedOf (map movedWords ms)) (moved-read m) ∙ ap (m ∷_) (moves-read ms)
 
 moved-written : (ms : List Moved) (words rest : List (List ℕ)) → map movedOf (take (length ms) (written (map movedWords ms) words ++ rest)) ≡ ms
-unfolding written
-moved-written ms words rest =
-    ap (λ l. map movedOf (take (length ms) l)) (append-assoc (map movedWords ms) (drop (length (map movedWords ms)) words) rest)
-    ∙ ap (map movedOf) (take-at (map movedWords ms) (drop (length (map movedWords ms)) words ++ rest) (length ms) (length-map ms movedWords))
-    ∙ moves-read ms
+moved-written ms words rest = written-back movedWords movedOf ms (moves-read ms) words rest
 
 -- what a segment over words answers and leaves, and what a segment over records does
 pub record Alike (erest mrest : List (List ℕ)) (e : List Elected) (m : List Moved) (a : SegmentListed) (b : SegmentOutcome) : Type 0 where
@@ -81,12 +74,14 @@ module _ (s : Settings) (prints : PrintSegment) (w : List ℕ) (ewords mwords : 
 
 -- the segment over the parts of the words that the lists have room for
 module _ (s : Settings) (prints : PrintSegment) (w : List ℕ) (fills moves : List (List ℕ)) (eroom mroom i j : ℕ)
-    (all : (length fills ≡ mostRecords) × (length moves ≡ 2 * mostRecords)) (epart : i ≡ min eroom (length fills)) (mpart : j ≡ min mroom (length moves))
+    (all : (length fills ≡ mostRecords) × (length moves ≡ 2 * mostRecords)) (epart : i ≡ min eroom (length fills))
+    (mpart : j ≡ min mroom (length moves))
     (answer : Answer Counts) (u : List ℕ) (x y : List (List ℕ)) (n k : ℕ) (ecount : n ≡ electedCount answer) (mcount : k ≡ movedCount answer) where
   abbrev run : SegmentListed
   run = segmentListed s prints w (take i fills) (take j moves)
 
-  alike : (e : List Elected) (m : List Moved) → length e ≡ eroom → length m ≡ mroom → Alike (drop i fills) (drop j moves) e m run (segmentCall s prints w e m)
+  alike : (e : List Elected) (m : List Moved) → length e ≡ eroom → length m ≡ mroom
+      → Alike (drop i fills) (drop j moves) e m run (segmentCall s prints w e m)
   alike e m le lm = segment-alike s prints w (take i fills) (take j moves) (drop i fills) (drop j moves) e m
       (part-length fills i eroom epart ∙ epart ∙ ap (min eroom) (all .0) ∙ ap (λ (a : ℕ). min a mostRecords) (sym le))
       (part-length moves j mroom mpart ∙ mpart ∙ ap (min mroom) (all .1) ∙ ap (λ (a : ℕ). min a (2 * mostRecords)) (sym lm))

@@ -23,6 +23,8 @@ use Rattle.book.proofs.Elected as elected
 use Rattle.book.proofs.Elected.Laws as elected′
 use Rattle.evaluation.proofs.EvaluationAnswer as evaluated
 use Rattle.evaluation.proofs.EvaluationAnswer.Laws as evaluated′
+use Rattle.evaluation.proofs.PassAnswer as passed
+use Rattle.evaluation.proofs.PassAnswer.Laws as passed′
 use Rattle.pricelevel.proofs.Id as id
 use Rattle.pricelevel.proofs.Id.Laws as id′
 use Rattle.pricelevel.proofs.Price as price
@@ -39,11 +41,18 @@ use Rattle.stop_terms.proofs.StopTerms.Laws as terms′
 use Rattle.store_words.proofs.LayoutAnswer as layout
 use Rattle.store_words.proofs.LayoutAnswer.Laws as layout′
 use Rattle.stop_orders.specs.declared.Run.{Run}
+use Rattle.stop_orders.specs.declared.PassRun.{PassRun}
 use Rattle.stop_orders.specs.declared.SegmentRun.{SegmentRun}
+use Rattle.stop_orders.specs.declared.TriggerRun.{TriggerRun}
 use Rattle.stop_orders.proofs.Run as run
 use Rattle.stop_orders.proofs.Run.Laws as run′
+use Rattle.stop_orders.proofs.PassRun as pass-run
+use Rattle.stop_orders.proofs.PassRun.Laws as pass-run′
+use Rattle.stop_orders.proofs.TriggerRun as trigger-run
+use Rattle.stop_orders.proofs.TriggerRun.Laws as trigger-run′
 use Rattle.stop_orders.proofs.SegmentRun as segment-run
 use Rattle.stop_orders.proofs.SegmentRun.Laws as segment-run′
+use Rattle.stop_orders.proofs.Placing.{Storable}
 use Rattle.stop_orders.proofs.Plain.{Plain, Stands, word, struct, enum}
 
 abbrev pub PathOf : Plain
@@ -103,6 +112,22 @@ PrintsOf = struct prints.the-type prints′.the-laws prints′.the-plain (λ d l
 abbrev pub SegmentRunOf : Plain
 SegmentRunOf = struct segment-run.the-type segment-run′.the-laws segment-run′.the-plain (λ d l. refl)
 
+abbrev pub PassedOf : Plain
+PassedOf = enum passed.the-type passed′.the-laws passed′.the-plain tt (λ d l. refl)
+
+abbrev pub PassRunOf : Plain
+PassRunOf = struct pass-run.the-type pass-run′.the-laws pass-run′.the-plain (λ d l. refl)
+
+abbrev pub TriggerRunOf : Plain
+TriggerRunOf = struct trigger-run.the-type trigger-run′.the-laws trigger-run′.the-plain (λ d l. refl)
+
+-- ---- records that are stored in a list
+pub elected-fit : Storable ElectedOf
+elected-fit = record { one = refl; small = tt; last = λ d. tt }
+
+pub moved-fit : Storable MovedOf
+moved-fit = record { one = refl; small = tt; last = λ d. tt }
+
 -- ---- the fields of an answer with the path after it
 pub taken-parts : (r : TakenSegment) → Stands TakenOf r → Stands NextOf (r .segment) × Stands PathOf (r .path)
 taken-parts r is = (owed taken.the-type taken′.the-laws r _ is .0, owed taken.the-type taken′.the-laws r _ is .1 .0)
@@ -116,7 +141,8 @@ admission-parts r is = (owed admission.the-type admission′.the-laws r _ is .0,
 pub run-parts : (r : Run) → Stands RunOf r → Stands EvaluatedOf (r .answer) × Stands word (r .count)
 run-parts r is = (owed run.the-type run′.the-laws r _ is .0, owed run.the-type run′.the-laws r _ is .1 .0)
 
-pub segment-run-parts : (r : SegmentRun) → Stands SegmentRunOf r → Stands EvaluatedOf (r .answer) × (Stands word (r .elected) × Stands word (r .moved))
+pub segment-run-parts : (r : SegmentRun) → Stands SegmentRunOf r → Stands EvaluatedOf (r .answer)
+    × (Stands word (r .elected) × Stands word (r .moved))
 segment-run-parts r is = (
   owed segment-run.the-type segment-run′.the-laws r _ is .0,
   (
@@ -124,3 +150,11 @@ segment-run-parts r is = (
     owed segment-run.the-type segment-run′.the-laws r _ is .1 .1 .0,
   ),
 )
+
+pub pass-run-parts : (r : PassRun) → Stands PassRunOf r → Stands PassedOf (r .answer) × Stands word (r .count)
+pass-run-parts r is = (owed pass-run.the-type pass-run′.the-laws r _ is .0, owed pass-run.the-type pass-run′.the-laws r _ is .1 .0)
+
+pub trigger-run-parts : (r : TriggerRun) → Stands TriggerRunOf r → Stands PassedOf (r .answer) × (Stands PathOf (r .path) × Stands word (r .count))
+trigger-run-parts r is =
+    let o = owed trigger-run.the-type trigger-run′.the-laws r _ is in
+    (o .0, (o .1 .0, o .1 .1 .0))

@@ -24,6 +24,8 @@ pub use book::StopEntry;
 pub use error::Refusal;
 pub use evaluation::Counts;
 pub use evaluation::EvaluationAnswer;
+pub use evaluation::PassAnswer;
+pub use evaluation::PassCounts;
 pub use pricelevel::Id;
 pub use pricelevel::IdKind;
 pub use pricelevel::Price;
@@ -76,16 +78,16 @@ ghost use mathlib.Core.List.{List, [], map};
 ghost use mathlib.Core.Path.{_≡_};
 ghost use lib.ListN.{length, getD, set, take as firsts};
 ghost use Rattle.admission.specs.Answers.{toldAdmission};
-ghost use Rattle.book.specs.Calls.{written, segmentCall, walkCall};
+ghost use Rattle.book.specs.Calls.{written, segmentCall, walkCall, passCall, runCall};
 ghost use Rattle.book.specs.Path.{recorded, closed, take};
 ghost use Rattle.book.specs.Store.{clear, admit};
 ghost use Rattle.book.specs.Words.{mostRecords};
 ghost use Rattle.book.specs.declared.Elected.{Elected};
 ghost use Rattle.book.specs.declared.Moved.{Moved};
-ghost use Rattle.evaluation.specs.Answers.{toldCounts};
+ghost use Rattle.evaluation.specs.Answers.{toldCounts, toldPass};
 ghost use Rattle.points.specs.Steps.{toPrice};
 ghost use Rattle.print_path.specs.Segments.{toldNext};
-ghost use Rattle.stop_orders.specs.Records.{limitFrom, electedOf, movedOf, electedCount, movedCount};
+ghost use Rattle.stop_orders.specs.Records.{limitFrom, electedOf, movedOf, electedCount, movedCount, passCount};
 ghost use Rattle.store_words.specs.Empty.{toldLayout};
 
 // ---------------------------------------------------------------------
@@ -390,6 +392,132 @@ pub fn walk(
 {
     let mut words = [[0u64; 13]; 700];
     let run = walk_words(s, settings, prev, prices, &mut words, elected.len());
+    fill_elected(elected, &words, run.count);
+    run.answer
+}
+
+// ---------------------------------------------------------------------
+// Pass and run
+
+// How many entries a pass elected; none where it was refused.
+fn pass_count(answer: PassAnswer) -> usize
+    ensures { λ r. ⌜ r ≡ passCount (toldPass answer) ⌝ }
+{
+    match answer {
+        PassAnswer::Ok(c) => c.elected as usize,
+        PassAnswer::Err(_) => 0,
+    }
+}
+
+// A pass's answer, and how many entries it put on its list.
+struct PassRun {
+    answer: PassAnswer,
+    count: usize,
+}
+
+// A pass for a list with this room. The words of what it elects are written from the start.
+fn pass_words(
+    s: &mut [u64],
+    settings: Settings,
+    script: &[u64],
+    prints: PrintSegment,
+    words: &mut [[u64; 13]],
+    room: usize,
+) -> PassRun
+    requires { ⌜ length (now words) ≡ mostRecords ⌝ }
+    ensures { λ r. ⌜ (r .count ≤ room) × (r .count ≤ mostRecords) ⌝ }
+    ensures { λ r. ⌜ ((list : List Elected) → length list ≡ room
+        → toldPass (r .answer) ≡ passCall settings (now (script .entry)) prints (now (s .entry)) list .answer) ⌝ }
+    ensures { λ _. ⌜ ((list : List Elected) → length list ≡ room
+        → now (s .exit) ≡ passCall settings (now (script .entry)) prints (now (s .entry)) list .words) ⌝ }
+    ensures { λ r. ⌜ ((list : List Elected) → length list ≡ room → written (map electedOf (firsts (r .count) (now (words .exit)))) list
+        ≡ passCall settings (now (script .entry)) prints (now (s .entry)) list .elected) ⌝ }
+{
+    let k = least(room, words.len());
+    let answer = evaluation::evaluate_pending_stops(s, settings, script, prints, &mut words[..k]);
+    PassRun {
+        answer: answer,
+        count: pass_count(answer),
+    }
+}
+
+// A pass: segments from a queue, at first this one, until it or the store is empty. Each elected stop whose child identity is free uses the
+// next script entry. The elected are written from the start of the list; later entries stay. Refused: the store is not well formed (1); the
+// list is shorter than the pending count (14); the script is not well formed (15).
+pub fn evaluate_pending_stops(
+    s: &mut [u64],
+    settings: Settings,
+    script: &[u64],
+    prints: PrintSegment,
+    elected: &mut [Elected],
+) -> PassAnswer
+    ensures { λ r. ⌜ toldPass r ≡ passCall settings (now (script .entry)) prints (now (s .entry)) (now (elected .entry)) .answer ⌝ }
+    ensures { λ _. ⌜ now (s .exit) ≡ passCall settings (now (script .entry)) prints (now (s .entry)) (now (elected .entry)) .words ⌝ }
+    ensures { λ _. ⌜ now (elected .exit) ≡ passCall settings (now (script .entry)) prints (now (s .entry)) (now (elected .entry)) .elected ⌝ }
+{
+    let mut words = [[0u64; 13]; 700];
+    let run = pass_words(s, settings, script, prints, &mut words, elected.len());
+    fill_elected(elected, &words, run.count);
+    run.answer
+}
+
+// The answer of a run, the print path after it, and how many entries it put on its list.
+struct TriggerRun {
+    answer: PassAnswer,
+    path: PrintPath,
+    count: usize,
+}
+
+// A run for a list with this room. The words of what it elects are written from the start.
+fn run_words(
+    s: &mut [u64],
+    path: PrintPath,
+    settings: Settings,
+    script: &[u64],
+    trade: LastPrice,
+    words: &mut [[u64; 13]],
+    room: usize,
+) -> TriggerRun
+    requires { ⌜ length (now words) ≡ mostRecords ⌝ }
+    ensures { λ r. ⌜ (r .count ≤ room) × (r .count ≤ mostRecords) ⌝ }
+    ensures { λ r. ⌜ ((list : List Elected) → length list ≡ room
+        → toldPass (r .answer) ≡ runCall settings (now (script .entry)) trade (now (s .entry)) list path .answer) ⌝ }
+    ensures { λ r. ⌜ ((list : List Elected) → length list ≡ room
+        → r .path ≡ runCall settings (now (script .entry)) trade (now (s .entry)) list path .path) ⌝ }
+    ensures { λ _. ⌜ ((list : List Elected) → length list ≡ room
+        → now (s .exit) ≡ runCall settings (now (script .entry)) trade (now (s .entry)) list path .words) ⌝ }
+    ensures { λ r. ⌜ ((list : List Elected) → length list ≡ room → written (map electedOf (firsts (r .count) (now (words .exit)))) list
+        ≡ runCall settings (now (script .entry)) trade (now (s .entry)) list path .elected) ⌝ }
+{
+    let k = least(room, words.len());
+    let run = evaluation::run_stop_triggers(s, path, settings, script, trade, &mut words[..k]);
+    let answer = run.answer;
+    let after = run.path;
+    TriggerRun {
+        answer: answer,
+        path: after,
+        count: pass_count(answer),
+    }
+}
+
+// A run over path and store: takes the path's segment, up to the last trade, passes, and resets the path. Where nothing is pending or the
+// path is closed it answers zeros and leaves all alone. Refused as a pass is.
+pub fn run_stop_triggers(
+    s: &mut [u64],
+    path: &mut PrintPath,
+    settings: Settings,
+    script: &[u64],
+    trade: LastPrice,
+    elected: &mut [Elected],
+) -> PassAnswer
+    ensures { λ r. ⌜ toldPass r ≡ runCall settings (now (script .entry)) trade (now (s .entry)) (now (elected .entry)) (now (path .entry)) .answer ⌝ }
+    ensures { λ _. ⌜ now (path .exit) ≡ runCall settings (now (script .entry)) trade (now (s .entry)) (now (elected .entry)) (now (path .entry)) .path ⌝ }
+    ensures { λ _. ⌜ now (s .exit) ≡ runCall settings (now (script .entry)) trade (now (s .entry)) (now (elected .entry)) (now (path .entry)) .words ⌝ }
+    ensures { λ _. ⌜ now (elected .exit) ≡ runCall settings (now (script .entry)) trade (now (s .entry)) (now (elected .entry)) (now (path .entry)) .elected ⌝ }
+{
+    let mut words = [[0u64; 13]; 700];
+    let run = run_words(s, *path, settings, script, trade, &mut words, elected.len());
+    *path = run.path;
     fill_elected(elected, &words, run.count);
     run.answer
 }

@@ -8,11 +8,13 @@ use mathlib.Core.List.{[], _∷_, List}
 use Rattle.stop_orders.proofs.Walking.{URA, fullShare, named, Val, vbool, vptr, SProp, ent, emp, id⊢, via, fst∗, Lft, Share, GName, ftrue, fat}
 use Rattle.stop_orders.proofs.Walking.{flft, fobs, Memory, Routine, Heap, Calls, Loops, WpFn, Atoms, Fun, givenOf, tables, tablesOf, Given, ‵}
 use Rattle.stop_orders.proofs.Walking.{raw, _⊛_, ⋆, _$_, _∵_, !, qed, by, move, keep, drop, use2, split, join, rewrite, fsplit, fsplit3, fjoin}
-use Rattle.stop_orders.proofs.Walking.{feqL, suffices, frame, done, look, look-raw, init, store-raw, forget, stop, hop, fld, from, load, addr}
-use Rattle.stop_orders.proofs.Walking.{of-opd, and-then, no-more, assigns, land, returns, enter, alloc1, alloc0, params1, pass1, pass0, free1}
+use Rattle.stop_orders.proofs.Walking.{feqL, suffices, frame, done, look, look-raw, init, store-raw, stop, hop, fld, from, load, addr}
+use Rattle.stop_orders.proofs.Walking.{of-opd, and-then, no-more, assigns, land, returns, enter, alloc1, alloc0, params1, pass1, pass0}
 use Rattle.stop_orders.proofs.Walking.{free0, agg, whole, sub, look-in, FmC, owns, RefT, MutRef, ptr-vals, mut-tells, sliceVal, MutSlice, Room}
-use Rattle.stop_orders.proofs.Walking.{finally, slice-vals, mut-slice-tells, u64, plain, nothing, onEntry, tripleOf, Contract, Triple, calls-at}
-use Rattle.stop_orders.proofs.Walking.{lasts, entered, cited, Stays, gave-ref, gave-slice, walkOf, AllGo, goes-gave-ref, goes-gave-slice, Walks}
+use Rattle.stop_orders.proofs.Walking.{finally, slice-vals, mut-slice-tells, u64, plain, nothing}
+use Rattle.stop_orders.proofs.Walking.{onEntry, tripleOf, Contract, Triple, calls-at}
+use Rattle.stop_orders.proofs.Walking.{lasts, entered, cited, Stays, gave-ref, gave-slice}
+use Rattle.stop_orders.proofs.Walking.{walkOf, AllGo, goes-gave-ref, goes-gave-slice, Walks}
 use Rattle.stop_orders.proofs.Walking.{ends-at, walked}
 use Rattle.admission.specs.Answers.{toldAdmission}
 use Rattle.admission.specs.declared.Admission.{Admission}
@@ -27,6 +29,7 @@ use Rattle.stop_terms.specs.declared.StopTerms.{StopTerms}
 use Rattle.stop_orders.proofs.Claims.{All, claimed}
 use Rattle.stop_orders.proofs.Plain.{Plain, flag, Stands, rows, spells, valsOf, tellss, Held, drops, drops-go, value, stands}
 use Rattle.stop_orders.proofs.Types.{PathOf, LastOf, IdOf, TermsOf, QuantityOf, AdmittedOf, AdmissionOf, admission-parts}
+use Rattle.stop_orders.proofs.Frame.{full, frees-all}
 use Rattle.stop_orders.proofs.Lent.{has, lets-go, reads, shuts, answers, asks-with, meets}
 use Rattle.admission.proofs.admit_trailing_stop as callee
 use Rattle.admission.proofs.admit_trailing_stop.Symbol as callee-def
@@ -149,11 +152,7 @@ module _ {M : Type 1} (𝓤 : URA M) (H : Heap 𝓤) (A : Atoms 𝓤) (W : Given
         (init ! 31 refl (AdmittedOf .typed 𝓤 H A W (r .answer) _ (admission-parts r (stands AdmissionOf r w is) .0))) $
         shuts PathOf ! tt (r .path) b o (admission-parts r (stands AdmissionOf r w is) .1) $
         -- [obs; the borrow; the path's token; the last list; what is said of the path by value; the store's token; true; true; _11 (8); …]
-        returns ! (look ! 30 refl) $ forget ! 8 refl $ forget ! 10 refl $ forget ! 12 refl $ forget ! 14 refl $ forget ! 16 refl $
-        forget ! 18 refl $ forget ! 20 refl $ forget ! 22 refl $ forget ! 24 refl $ forget ! 26 refl $ forget ! 28 refl $ forget ! 30 refl $
-        move ! (30 ∷ 31 ∷ []) $ free1 ! $ move ! (28 ∷ 29 ∷ []) $ free1 ! $ move ! (26 ∷ 27 ∷ []) $ free1 ! $ move ! (24 ∷ 25 ∷ []) $ free1 ! $
-        move ! (22 ∷ 23 ∷ []) $ free1 ! $ move ! (20 ∷ 21 ∷ []) $ free1 ! $ move ! (18 ∷ 19 ∷ []) $ free1 ! $ move ! (16 ∷ 17 ∷ []) $ free1 ! $
-        move ! (14 ∷ 15 ∷ []) $ free1 ! $ move ! (12 ∷ 13 ∷ []) $ free1 ! $ move ! (10 ∷ 11 ∷ []) $ free1 ! $ move ! (8 ∷ 9 ∷ []) $ free1 ! $
+        returns ! (look ! 30 refl) $ frees-all ! 8 (full _ ∷ full _ ∷ full _ ∷ full _ ∷ full _ ∷ full _ ∷ full _ ∷ full _ ∷ full _ ∷ full _ ∷ full _ ∷ full _ ∷ []) tt refl $
         free0 ! $ keep ! (3 ∷ 5 ∷ 0 ∷ 2 ∷ []) $ by ! (exits r (stands AdmissionOf r w is) (zs .0) l e)))))))))))))))))
 
 module _ {M : Type 1} (𝓤 : URA M) (H : Heap 𝓤) (A : Atoms 𝓤) (W : Given 𝓤 H A) (at-mem : Memory → SProp 𝓤) (run : Routine → Fun 𝓤) where

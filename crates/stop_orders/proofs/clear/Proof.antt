@@ -6,12 +6,16 @@ use lib.ListN.{length}
 use mathlib.Core.List.{[], _∷_, List}
 use Rattle.stop_orders.proofs.Walking.{URA, fullShare, named, Val, vptr, SProp, ent, emp, id⊢, via, fst∗, Lft, Share, GName, ftrue, fat, flft}
 use Rattle.stop_orders.proofs.Walking.{fobs, Memory, Routine, Heap, Calls, Loops, WpFn, Atoms, Fun, givenOf, tables, tablesOf, Given, ‵, raw}
-use Rattle.stop_orders.proofs.Walking.{_⊛_, ⋆, _$_, _∵_, !, qed, by, move, keep, drop, use2, split, join, rewrite, fsplit, fsplit3, fjoin, feqL}
-use Rattle.stop_orders.proofs.Walking.{suffices, frame, done, look, look-raw, init, store-raw, forget, stop, hop, fld, from, load, addr, of-opd}
-use Rattle.stop_orders.proofs.Walking.{and-then, no-more, assigns, land, returns, enter, alloc1, alloc0, params1, pass1, pass0, free1, free0}
+use Rattle.stop_orders.proofs.Walking.{_⊛_, ⋆, _$_, _∵_, !, qed, by, move, keep}
+use Rattle.stop_orders.proofs.Walking.{drop, use2, split, join, rewrite, fsplit, fsplit3, fjoin, feqL}
+use Rattle.stop_orders.proofs.Walking.{suffices, frame, done, look, look-raw, init, store-raw}
+use Rattle.stop_orders.proofs.Walking.{stop, hop, fld, from, load, addr, of-opd}
+use Rattle.stop_orders.proofs.Walking.{and-then, no-more, assigns, land, returns, enter, alloc1, alloc0, params1, pass1, pass0, free0}
 use Rattle.stop_orders.proofs.Walking.{agg, whole, sub, look-in, FmC, owns, RefT, MutRef, ptr-vals, mut-tells, sliceVal, MutSlice, Room}
-use Rattle.stop_orders.proofs.Walking.{finally, slice-vals, mut-slice-tells, u64, plain, nothing, onEntry, tripleOf, Contract, Triple, calls-at}
-use Rattle.stop_orders.proofs.Walking.{lasts, entered, cited, Stays, gave-ref, gave-slice, walkOf, AllGo, goes-gave-ref, goes-gave-slice, Walks}
+use Rattle.stop_orders.proofs.Walking.{finally, slice-vals, mut-slice-tells, u64, plain, nothing}
+use Rattle.stop_orders.proofs.Walking.{onEntry, tripleOf, Contract, Triple, calls-at}
+use Rattle.stop_orders.proofs.Walking.{lasts, entered, cited, Stays, gave-ref, gave-slice}
+use Rattle.stop_orders.proofs.Walking.{walkOf, AllGo, goes-gave-ref, goes-gave-slice, Walks}
 use Rattle.stop_orders.proofs.Walking.{ends-at, walked}
 use Rattle.admission.specs.declared.Cleared.{Cleared}
 use Rattle.book.specs.declared.PrintPath.{PrintPath}
@@ -20,6 +24,7 @@ use Rattle.store_words.specs.Empty.{toldLayout}
 use Rattle.stop_orders.proofs.Claims.{All, claimed}
 use Rattle.stop_orders.proofs.Plain.{Stands, value, stands}
 use Rattle.stop_orders.proofs.Types.{PathOf, LayoutOf, ClearedOf, cleared-parts}
+use Rattle.stop_orders.proofs.Frame.{full, frees-all}
 use Rattle.stop_orders.proofs.Lent.{has, lets-go, reads, shuts, answers, asks-with, meets}
 use Rattle.admission.proofs.clear as callee
 use Rattle.admission.proofs.clear.Symbol as callee-def
@@ -113,9 +118,7 @@ module _ {M : Type 1} (𝓤 : URA M) (H : Heap 𝓤) (A : Atoms 𝓤) (W : Given
         (init ! 21 refl (LayoutOf .typed 𝓤 H A W (r .answer) _ (cleared-parts r (stands ClearedOf r w is) .0))) $
         shuts PathOf ! tt (r .path) b o (cleared-parts r (stands ClearedOf r w is) .1) $
         -- [obs; the borrow; the path's token; the last list; what is said of the path by value; the store's token; true; true; _6 (8); …]
-        returns ! (look ! 20 refl) $ forget ! 8 refl $ forget ! 10 refl $ forget ! 12 refl $ forget ! 14 refl $ forget ! 16 refl $
-        forget ! 18 refl $ forget ! 20 refl $ move ! (20 ∷ 21 ∷ []) $ free1 ! $ move ! (18 ∷ 19 ∷ []) $ free1 ! $ move ! (16 ∷ 17 ∷ []) $ free1 ! $
-        move ! (14 ∷ 15 ∷ []) $ free1 ! $ move ! (12 ∷ 13 ∷ []) $ free1 ! $ move ! (10 ∷ 11 ∷ []) $ free1 ! $ move ! (8 ∷ 9 ∷ []) $ free1 ! $
+        returns ! (look ! 20 refl) $ frees-all ! 8 (full _ ∷ full _ ∷ full _ ∷ full _ ∷ full _ ∷ full _ ∷ full _ ∷ []) tt refl $
         free0 ! $ keep ! (3 ∷ 5 ∷ 0 ∷ 2 ∷ []) $ by ! (exits r (stands ClearedOf r w is) (zs .0) l e))))))))))))
 
 module _ {M : Type 1} (𝓤 : URA M) (H : Heap 𝓤) (A : Atoms 𝓤) (W : Given 𝓤 H A) (at-mem : Memory → SProp 𝓤) (run : Routine → Fun 𝓤) where

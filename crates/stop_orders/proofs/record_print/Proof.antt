@@ -4,11 +4,13 @@ use mathlib.Core.Path.{_≡_, refl}
 use Prim.Native.Nat.{ℕ}
 use mathlib.Core.List.{[], _∷_, List}
 use Rattle.stop_orders.proofs.Walking.{URA, fullShare, named, w64, Val, vunit, vint, vptr, SProp, ent, emp, id⊢, via, fst∗, Lft, Share, GName}
-use Rattle.stop_orders.proofs.Walking.{ftrue, fat, flft, fobs, Memory, Routine, Heap, Calls, Loops, WpFn, Atoms, Fun, givenOf, tables, tablesOf}
+use Rattle.stop_orders.proofs.Walking.{ftrue, fat, flft, fobs, Memory, Routine, Heap, Calls}
+use Rattle.stop_orders.proofs.Walking.{Loops, WpFn, Atoms, Fun, givenOf, tables, tablesOf}
 use Rattle.stop_orders.proofs.Walking.{Given, ‵, raw, _⊛_, ⋆, _$_, _∵_, !, qed, by, move, keep, drop, use0, split, join, rewrite, fsplit}
-use Rattle.stop_orders.proofs.Walking.{fsplit3, fjoin, feqI, suffices, frame, done, look, look-raw, init, store-raw, forget, stop, hop, from}
-use Rattle.stop_orders.proofs.Walking.{load, unit-lit, of-opd, and-then, no-more, assigns, land, returns, enter, alloc1, alloc0, params1, pass1}
-use Rattle.stop_orders.proofs.Walking.{pass0, free1, free0, FmC, owns, RefT, MutRef, ptr-vals, mut-tells, plain, nothing, onEntry, tripleOf}
+use Rattle.stop_orders.proofs.Walking.{fsplit3, fjoin, feqI, suffices, frame, done, look, look-raw, init, store-raw, stop, hop, from}
+use Rattle.stop_orders.proofs.Walking.{load, unit-lit, of-opd, and-then, no-more, assigns, land}
+use Rattle.stop_orders.proofs.Walking.{returns, enter, alloc1, alloc0, params1, pass1}
+use Rattle.stop_orders.proofs.Walking.{pass0, free0, FmC, owns, RefT, MutRef, ptr-vals, mut-tells, plain, nothing, onEntry, tripleOf}
 use Rattle.stop_orders.proofs.Walking.{Contract, Triple, calls-at, lasts, entered, cited, says, Stays, gave-ref, walkOf, AllGo, goes-gave-ref}
 use Rattle.stop_orders.proofs.Walking.{Walks, ends-at, walked}
 use Rattle.book.specs.declared.LastPrice.{LastPrice}
@@ -17,6 +19,7 @@ use Rattle.book.specs.Path.{recorded}
 use Rattle.pricelevel.specs.declared.Price.{Price}
 use Rattle.stop_orders.proofs.Plain.{Plain, word, rows, spells, valsOf, tellss, Held, drops, drops-go, value, stands}
 use Rattle.stop_orders.proofs.Types.{PathOf, LastOf, PriceOf}
+use Rattle.stop_orders.proofs.Frame.{full, frees-all}
 use Rattle.stop_orders.proofs.Lent.{lets-go, reads, shuts, answers, asks, meets}
 use Rattle.print_path.proofs.recorded as callee
 use Rattle.print_path.proofs.recorded.Symbol as callee-def
@@ -93,9 +96,7 @@ module _ {M : Type 1} (𝓤 : URA M) (H : Heap 𝓤) (A : Atoms 𝓤) (W : Given
         assigns ! (of-opd ! (unit-lit !)) (from ! (stop !)) (init ! 18 refl (tt, tt)) $
         shuts PathOf ! tt r b o (stands PathOf r w is) $
         -- [obs; the borrow; the token; true; true; _6 (5); …]
-        returns ! (look ! 17 refl) $ forget ! 5 refl $ forget ! 7 refl $ forget ! 9 refl $ forget ! 11 refl $ forget ! 13 refl $ forget ! 15 refl $
-        forget ! 17 refl $ move ! (17 ∷ 18 ∷ []) $ free1 ! $ move ! (15 ∷ 16 ∷ []) $ free1 ! $ move ! (13 ∷ 14 ∷ []) $ free1 ! $
-        move ! (11 ∷ 12 ∷ []) $ free1 ! $ move ! (9 ∷ 10 ∷ []) $ free1 ! $ move ! (7 ∷ 8 ∷ []) $ free1 ! $ move ! (5 ∷ 6 ∷ []) $ free1 ! $
+        returns ! (look ! 17 refl) $ frees-all ! 5 (full _ ∷ full _ ∷ full _ ∷ full _ ∷ full _ ∷ full _ ∷ full _ ∷ []) tt refl $
         free0 ! $ keep ! (0 ∷ 2 ∷ []) $ by ! (exits r e)))))))))))
 
 module _ {M : Type 1} (𝓤 : URA M) (H : Heap 𝓤) (A : Atoms 𝓤) (W : Given 𝓤 H A) (at-mem : Memory → SProp 𝓤) (run : Routine → Fun 𝓤) where

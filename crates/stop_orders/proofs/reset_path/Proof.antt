@@ -6,15 +6,17 @@ use mathlib.Core.List.{[], _∷_, List}
 use Rattle.stop_orders.proofs.Walking.{URA, fullShare, named, Val, vunit, vptr, SProp, ent, emp, id⊢, via, fst∗, Lft, Share, GName, ftrue, fat}
 use Rattle.stop_orders.proofs.Walking.{flft, fobs, Memory, Routine, Heap, Calls, Loops, WpFn, Atoms, Fun, givenOf, tables, tablesOf, Given, ‵}
 use Rattle.stop_orders.proofs.Walking.{raw, _⊛_, ⋆, _$_, _∵_, !, qed, by, move, keep, drop, use0, split, join, rewrite, fsplit, fsplit3, fjoin}
-use Rattle.stop_orders.proofs.Walking.{feqI, suffices, frame, done, look, look-raw, init, store-raw, forget, stop, hop, from, load, unit-lit}
-use Rattle.stop_orders.proofs.Walking.{of-opd, and-then, no-more, assigns, land, returns, enter, alloc1, alloc0, params1, pass1, pass0, free1}
-use Rattle.stop_orders.proofs.Walking.{free0, FmC, owns, RefT, MutRef, ptr-vals, mut-tells, plain, nothing, onEntry, tripleOf, Contract, Triple}
+use Rattle.stop_orders.proofs.Walking.{feqI, suffices, frame, done, look, look-raw, init, store-raw, stop, hop, from, load, unit-lit}
+use Rattle.stop_orders.proofs.Walking.{of-opd, and-then, no-more, assigns, land, returns, enter, alloc1, alloc0, params1, pass1, pass0}
+use Rattle.stop_orders.proofs.Walking.{free0, FmC, owns, RefT, MutRef, ptr-vals, mut-tells}
+use Rattle.stop_orders.proofs.Walking.{plain, nothing, onEntry, tripleOf, Contract, Triple}
 use Rattle.stop_orders.proofs.Walking.{calls-at, lasts, entered, cited, says, Stays, gave-ref, walkOf, AllGo, goes-gave-ref, Walks, ends-at}
 use Rattle.stop_orders.proofs.Walking.{walked}
 use Rattle.book.specs.declared.PrintPath.{PrintPath}
 use Rattle.book.specs.Path.{closed}
 use Rattle.stop_orders.proofs.Plain.{value, stands}
 use Rattle.stop_orders.proofs.Types.{PathOf}
+use Rattle.stop_orders.proofs.Frame.{full, frees-all}
 use Rattle.stop_orders.proofs.Lent.{lets-go, reads, shuts, answers, asks, meets}
 use Rattle.print_path.proofs.closed as callee
 use Rattle.print_path.proofs.closed.Symbol as callee-def
@@ -78,8 +80,8 @@ module _ {M : Type 1} (𝓤 : URA M) (H : Heap 𝓤) (A : Atoms 𝓤) (W : Given
         assigns ! (of-opd ! (unit-lit !)) (from ! (stop !)) (init ! 12 refl (tt, tt)) $
         shuts PathOf ! tt r b o (stands PathOf r w is) $
         -- [obs; the borrow; the token; true; true; _3 (5); …]
-        returns ! (look ! 11 refl) $ forget ! 5 refl $ forget ! 7 refl $ forget ! 9 refl $ forget ! 11 refl $ move ! (11 ∷ 12 ∷ []) $ free1 ! $
-        move ! (9 ∷ 10 ∷ []) $ free1 ! $ move ! (7 ∷ 8 ∷ []) $ free1 ! $ move ! (5 ∷ 6 ∷ []) $ free1 ! $ free0 ! $ keep ! (0 ∷ 2 ∷ []) $
+        returns ! (look ! 11 refl) $ frees-all ! 5 (full _ ∷ full _ ∷ full _ ∷ full _ ∷ []) tt refl $
+        free0 ! $ keep ! (0 ∷ 2 ∷ []) $
         by ! (exits r e))))))))
 
 module _ {M : Type 1} (𝓤 : URA M) (H : Heap 𝓤) (A : Atoms 𝓤) (W : Given 𝓤 H A) (at-mem : Memory → SProp 𝓤) (run : Routine → Fun 𝓤) where

@@ -6,8 +6,8 @@ use mathlib.Core.List.{[], _∷_, List}
 use Rattle.stop_orders.proofs.Walking.{URA, fullShare, named, Val, vptr, SProp, ent, emp, id⊢, via, fst∗, Lft, Share, GName, ftrue, fat, flft}
 use Rattle.stop_orders.proofs.Walking.{fobs, Memory, Routine, Heap, Calls, Loops, WpFn, Atoms, Fun, givenOf, tables, tablesOf, Given, ‵, raw}
 use Rattle.stop_orders.proofs.Walking.{_⊛_, ⋆, _$_, _∵_, !, qed, by, move, keep, drop, use0, split, join, rewrite, fsplit, fsplit3, fjoin}
-use Rattle.stop_orders.proofs.Walking.{suffices, frame, done, look, look-raw, init, store-raw, forget, stop, hop, fld, from, load, of-opd}
-use Rattle.stop_orders.proofs.Walking.{and-then, no-more, assigns, land, returns, enter, alloc1, alloc0, params1, pass1, pass0, free1, free0}
+use Rattle.stop_orders.proofs.Walking.{suffices, frame, done, look, look-raw, init, store-raw, stop, hop, fld, from, load, of-opd}
+use Rattle.stop_orders.proofs.Walking.{and-then, no-more, assigns, land, returns, enter, alloc1, alloc0, params1, pass1, pass0, free0}
 use Rattle.stop_orders.proofs.Walking.{whole, sub, look-in, FmC, owns, RefT, MutRef, ptr-vals, mut-tells, plain, nothing, onEntry, tripleOf}
 use Rattle.stop_orders.proofs.Walking.{Contract, Triple, calls-at, lasts, entered, cited, Stays, gave-ref, walkOf, AllGo, goes-gave-ref, Walks}
 use Rattle.stop_orders.proofs.Walking.{ends-at, walked}
@@ -19,6 +19,7 @@ use Rattle.print_path.specs.declared.TakenSegment.{TakenSegment}
 use Rattle.stop_orders.proofs.Claims.{All, claimed}
 use Rattle.stop_orders.proofs.Plain.{Plain, Stands, rows, spells, valsOf, tellss, Held, drops, drops-go, value, stands}
 use Rattle.stop_orders.proofs.Types.{PathOf, LastOf, NextOf, TakenOf, taken-parts}
+use Rattle.stop_orders.proofs.Frame.{full, frees-all}
 use Rattle.stop_orders.proofs.Lent.{has, lets-go, reads, shuts, answers, asks, meets}
 use Rattle.print_path.proofs.taken as callee
 use Rattle.print_path.proofs.taken.Symbol as callee-def
@@ -94,9 +95,8 @@ module _ {M : Type 1} (𝓤 : URA M) (H : Heap 𝓤) (A : Atoms 𝓤) (W : Given
         (init ! 14 refl (NextOf .typed 𝓤 H A W (r .segment) _ (taken-parts r (stands TakenOf r w is) .0))) $
         shuts PathOf ! tt (r .path) b o (taken-parts r (stands TakenOf r w is) .1) $
         -- [obs; the borrow; the token; true; true; _4 (5); …]
-        returns ! (look ! 13 refl) $ forget ! 5 refl $ forget ! 7 refl $ forget ! 9 refl $ forget ! 11 refl $ forget ! 13 refl $
-        move ! (13 ∷ 14 ∷ []) $ free1 ! $ move ! (11 ∷ 12 ∷ []) $ free1 ! $ move ! (9 ∷ 10 ∷ []) $ free1 ! $ move ! (7 ∷ 8 ∷ []) $ free1 ! $
-        move ! (5 ∷ 6 ∷ []) $ free1 ! $ free0 ! $ keep ! (0 ∷ 2 ∷ []) $ by ! (exits r (stands TakenOf r w is) e)))))))))
+        returns ! (look ! 13 refl) $ frees-all ! 5 (full _ ∷ full _ ∷ full _ ∷ full _ ∷ full _ ∷ []) tt refl $
+        free0 ! $ keep ! (0 ∷ 2 ∷ []) $ by ! (exits r (stands TakenOf r w is) e)))))))))
 
 module _ {M : Type 1} (𝓤 : URA M) (H : Heap 𝓤) (A : Atoms 𝓤) (W : Given 𝓤 H A) (at-mem : Memory → SProp 𝓤) (run : Routine → Fun 𝓤) where
   walks : (C : Calls 𝓤 H) (Λ : Loops 𝓤 H) → FmC 𝓤 H (W .laws) C → Triple 𝓤 (C #callee) (Callee 𝓤 H A at-mem run)

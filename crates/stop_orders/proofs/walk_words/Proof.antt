@@ -2,8 +2,9 @@
 use mathlib.Core.Path.{sym}
 use mathlib.Core.List.{map}
 use Rattle.points.specs.Steps.{toPrice}
-use Rattle.stop_orders.proofs.Cut.{part-length, walk-words}
-use borrow.Author.Needs.{needs}
+use Rattle.stop_orders.specs.Records.{electedCount}
+use Rattle.stop_orders.proofs.Cut.{part-length, cut-words}
+use Rattle.stop_orders.proofs.CutWalk.{walkOver, walkOn, walk-few, walk-alike}
 use borrow.Author.Needs.{needs}
 use Rattle.stop_orders.proofs.walk_words.Statement.{statement}
 use Rattle.stop_orders.proofs.walk_words.Tie as tie
@@ -34,8 +35,12 @@ returns c =
     let w = c .before .before .before .before in
     let l = w .before .before .before in
     let a = l .before .before .before .args in
-    walk-words (a .settings) (a .prev) (map toPrice (a .prices .now)) (a .s .now) (a .words .now) (a .room) _ (l .before .before .before .pre)
-    (l .least .ensures) _ _ _ _ (c .elected-count .ensures) (w .walk .ensures)
+    let d = w .walk .ensures in
+    let settings = a .settings in
+    let prices = map toPrice (a .prices .now) in
+    cut-words electedCount (walkOver settings (a .prev) prices (a .s .now)) (walkOn settings (a .prev) prices (a .s .now))
+    (walk-few settings (a .prev) prices (a .s .now)) (walk-alike settings (a .prev) prices (a .s .now)) (a .words .now) (a .room) _
+    (l .before .before .before .pre) (l .least .ensures) _ _ _ _ (c .elected-count .ensures) (d .0) (d .1 .0) (d .1 .1)
 
 pub walk-words-spec : {M : Type 1} → statement M
 walk-words-spec =

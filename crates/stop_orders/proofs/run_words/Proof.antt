@@ -1,0 +1,50 @@
+-- `run_words` meets its contract: the run over the part of the words that the list has room for.
+use mathlib.Core.Path.{sym}
+use Rattle.stop_orders.proofs.Cut.{part-length}
+use Rattle.stop_orders.proofs.CutPass.{run-cut}
+use borrow.Author.Needs.{needs}
+use Rattle.stop_orders.proofs.run_words.Statement.{statement}
+use Rattle.stop_orders.proofs.run_words.Tie as tie
+
+least-requires : tie.Need-least-requires
+least-requires c κs = search needs
+
+slice-relend-prefix-run-stop-triggers : tie.Need-slice-relend-prefix-run-stop-triggers
+slice-relend-prefix-run-stop-triggers c = search needs
+
+slice-aggregate-run-stop-triggers : tie.Need-slice-aggregate-run-stop-triggers
+slice-aggregate-run-stop-triggers c = sym (part-length _ _ _ (c .before .before .least .ensures))
+
+run-stop-triggers-requires : tie.Need-run-stop-triggers-requires
+run-stop-triggers-requires c κs = search needs
+
+pass-count-requires : tie.Need-pass-count-requires
+pass-count-requires c κs = search needs
+
+same-length : tie.Need-same-length
+same-length c = search needs
+
+same-length-2 : tie.Need-same-length-2
+same-length-2 c = search needs
+
+returns : tie.Need-returns
+returns c =
+    let w = c .before .before .before .before .before in
+    let l = w .before .before .before in
+    let a = l .before .before .before .args in
+    run-cut (a .settings) (a .script .now) (a .trade) (a .s .now) (a .path) (a .words .now) (a .room) _ (l .before .before .before .pre)
+    (l .least .ensures)
+    _ _ _ _ _ (c .pass-count .ensures) (w .run-stop-triggers .ensures)
+
+pub run-words-spec : {M : Type 1} → statement M
+run-words-spec =
+    tie.close
+    (tie.spec
+    least-requires
+    slice-relend-prefix-run-stop-triggers
+    slice-aggregate-run-stop-triggers
+    run-stop-triggers-requires
+    pass-count-requires
+    same-length
+    same-length-2
+    returns)
