@@ -1,14 +1,15 @@
-// The calls, each printed with what it asks, its answer and what it lists. The lists are marked before a call: what a call leaves alone shows.
+// The calls, each printed with what it asks, its answer and what it lists.
+use crate::entries;
 use crate::print;
 use crate::words;
-use book::LastPrice;
-use book::PrintPath;
-use book::PrintSegment;
-use book::Settings;
-use evaluation::Counts;
-use evaluation::EvaluationAnswer;
-use evaluation::PassAnswer;
-use evaluation::PassCounts;
+use stop_orders::Counts;
+use stop_orders::EvaluationAnswer;
+use stop_orders::LastPrice;
+use stop_orders::PassAnswer;
+use stop_orders::PassCounts;
+use stop_orders::PrintPath;
+use stop_orders::PrintSegment;
+use stop_orders::Settings;
 
 // Whether a refused call left store and lists.
 fn kept(store: bool, lists: bool) {
@@ -61,12 +62,16 @@ pub fn segment(
 ) {
     let mut before = [0u64; 56];
     words::copy(&s[..], &mut before[..]);
-    words::mark_elected(elected);
-    words::mark_moved(moved);
     print::text(b"segment");
     print::prints(prints);
     print::text(b":");
-    match evaluation::segment(s, settings, prints, elected, moved) {
+    let done = panel::segment(s, settings, prints, elected.len(), moved.len());
+    let list = done.elected;
+    entries::keep_elected(list, elected);
+    let moves = done.moved;
+    entries::keep_moved(moves, moved);
+    let answer = done.answer;
+    match answer {
         EvaluationAnswer::Ok(c) => segment_counts(c, &elected[..], &moved[..]),
         EvaluationAnswer::Err(e) => {
             print::refused(e);
@@ -92,8 +97,11 @@ pub fn walk_on(
 ) {
     let mut before = [0u64; 56];
     words::copy(&s[..], &mut before[..]);
-    words::mark_elected(elected);
-    match evaluation::walk(s, settings, prev, prices, elected) {
+    let done = panel::walk(s, settings, prev, prices, elected.len());
+    let list = done.elected;
+    entries::keep_elected(list, elected);
+    let answer = done.answer;
+    match answer {
         EvaluationAnswer::Ok(c) => walk_counts(c, &elected[..]),
         EvaluationAnswer::Err(e) => {
             print::refused(e);
@@ -145,13 +153,15 @@ pub fn pass(
 ) {
     let mut before = [0u64; 56];
     words::copy(&s[..], &mut before[..]);
-    words::mark_elected(elected);
     print::text(b"pass");
     print::prints(prints);
     print::text(b" script");
     print::numbers(script);
     print::text(b":");
-    let answer = evaluation::evaluate_pending_stops(s, settings, script, prints, elected);
+    let done = panel::evaluate_pending_stops(s, settings, script, prints, elected.len());
+    let list = done.elected;
+    entries::keep_elected(list, elected);
+    let answer = done.answer;
     pass_answer(answer, &s[..], &before[..], &elected[..]);
 }
 
@@ -182,11 +192,12 @@ pub fn run(
 ) {
     let mut before = [0u64; 56];
     words::copy(&s[..], &mut before[..]);
-    words::mark_elected(elected);
     run_asked(path, script, trade);
-    let run = evaluation::run_stop_triggers(s, path, settings, script, trade, elected);
-    let answer = run.answer;
+    let done = panel::run_stop_triggers(s, path, settings, script, trade, elected.len());
+    let list = done.elected;
+    entries::keep_elected(list, elected);
+    let answer = done.answer;
     pass_answer(answer, &s[..], &before[..], &elected[..]);
-    let after = run.path;
+    let after = done.path;
     path_after(after);
 }

@@ -3,10 +3,10 @@ use crate::calls;
 use crate::print;
 use crate::stops;
 use crate::stops::Store;
-use book::LastPrice;
-use book::PrintPath;
-use book::PrintSegment;
-use book::Settings;
+use stop_orders::LastPrice;
+use stop_orders::PrintPath;
+use stop_orders::PrintSegment;
+use stop_orders::Settings;
 
 pub fn segment(store: Store, settings: Settings, prints: PrintSegment) {
     let mut s = [0u64; 55];

@@ -4,7 +4,7 @@ use crate::cases;
 use crate::print;
 use crate::stops;
 use crate::stops::Store;
-use book::LastPrice;
+use stop_orders::LastPrice;
 
 // A segment at 97, and the two words of the child identity of the first that it elects.
 fn words(store: Store) {

@@ -3,7 +3,7 @@ use crate::cases;
 use crate::print;
 use crate::stops;
 use crate::stops::Store;
-use book::LastPrice;
+use stop_orders::LastPrice;
 
 fn forecast() {
     print::text(

@@ -4,6 +4,7 @@
 mod calls;
 mod cases;
 mod children;
+mod entries;
 mod examples;
 mod passes;
 mod print;

@@ -3,8 +3,8 @@ use crate::cases;
 use crate::print;
 use crate::stops;
 use crate::stops::Store;
-use book::LastPrice;
-use book::PrintSegment;
+use stop_orders::LastPrice;
+use stop_orders::PrintSegment;
 
 fn at(price: u64) -> PrintSegment {
     stops::prints(LastPrice::None, price, price)

@@ -1,9 +1,9 @@
 // Text, numbers, entries and the pending stops of a store on standard output.
 use crate::words::word;
-use book::LastPrice;
-use book::PrintPath;
-use book::PrintSegment;
-use error::Refusal;
+use stop_orders::LastPrice;
+use stop_orders::PrintPath;
+use stop_orders::PrintSegment;
+use stop_orders::Refusal;
 
 pub fn text(t: &[u8]) {
     io::write_all(1, t);

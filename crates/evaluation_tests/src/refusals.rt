@@ -4,8 +4,8 @@ use crate::cases;
 use crate::print;
 use crate::stops;
 use crate::stops::Store;
-use book::LastPrice;
-use book::PrintSegment;
+use stop_orders::LastPrice;
+use stop_orders::PrintSegment;
 
 fn start() -> PrintSegment {
     stops::prints(LastPrice::None, 100, 94)

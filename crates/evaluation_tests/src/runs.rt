@@ -4,15 +4,13 @@ use crate::cases;
 use crate::print;
 use crate::stops;
 use crate::stops::Store;
-use book::LastPrice;
-use book::PrintPath;
-use pricelevel::Price;
-use print_path::closed;
-use print_path::recorded;
+use stop_orders::LastPrice;
+use stop_orders::Price;
+use stop_orders::PrintPath;
 
 // The path after a print, from a price, with two stops pending.
 fn opened(prev: LastPrice, first: u64) -> PrintPath {
-    recorded(stops::no_path(), 2, prev, Price(first))
+    panel::record_print(stops::no_path(), 2, prev, Price(first))
 }
 
 fn zeros() {
@@ -20,7 +18,12 @@ fn zeros() {
         b"\n# A run on a closed path, and with nothing pending: zeros, and all left alone\n",
     );
     let path = opened(stops::at(100), 97);
-    cases::run(Store::Forecast, closed(path), &[0; 0], stops::at(94));
+    cases::run(
+        Store::Forecast,
+        panel::reset_path(path),
+        &[0; 0],
+        stops::at(94),
+    );
     cases::run(Store::Empty, path, &[0; 0], stops::at(94));
 }
 
@@ -63,7 +66,12 @@ fn refused() {
     short_run(Store::Broken, path);
     short_run(Store::Forecast, path);
     cases::run(Store::Forecast, path, &[2], stops::at(94));
-    cases::run(Store::Forecast, closed(path), &[2], stops::at(94));
+    cases::run(
+        Store::Forecast,
+        panel::reset_path(path),
+        &[2],
+        stops::at(94),
+    );
 }
 
 pub fn all() {

@@ -4,7 +4,7 @@ use crate::cases;
 use crate::print;
 use crate::stops;
 use crate::stops::Store;
-use book::LastPrice;
+use stop_orders::LastPrice;
 
 const TOP: u64 = 0xffff_ffff_ffff_ffff;
 
@@ -14,7 +14,7 @@ fn entry(what: &[u8], words: &[u64]) {
     print::text(b"\n");
 }
 
-// A segment that elects none and moves three: the entries after those, which keep their mark.
+// A segment that elects none and moves three: the entries after those, which stay blank.
 fn marks(first: u64, last: u64) {
     let mut s = [0u64; 55];
     let mut elected = [[0u64; 13]; 5];
@@ -35,7 +35,7 @@ fn marks(first: u64, last: u64) {
 
 fn ratchets() {
     print::text(
-        b"\n# A sell (90, 100, 10) and a buy (130, 120, 10) ratchet at two points; entries after the written ones keep their mark, 7\n",
+        b"\n# A sell (90, 100, 10) and a buy (130, 120, 10) ratchet at two points; entries after the written ones stay blank\n",
     );
     marks(105, 110);
     marks(104, 100);

@@ -1,25 +1,24 @@
 // Stores, the stops admitted into them, and the settings of an evaluation.
 use crate::print;
 use crate::words;
-use admission::AdmissionAnswer;
-use admission::admit_trailing_stop;
-use book::LastPrice;
-use book::PrintPath;
-use book::PrintSegment;
-use book::Settings;
-use pricelevel::Id;
-use pricelevel::IdKind;
-use pricelevel::Price;
-use pricelevel::Quantity;
-use pricelevel::Side;
-use stop_protection::NewProtection;
-use stop_protection::Protection;
-use stop_protection::StopProtection;
-use stop_terms::StopTerms;
-use stop_trigger::stop_trigger_order_id;
-use store_words::LayoutAnswer;
-use store_words::layout_store;
-use uuid::Uuid;
+use stop_orders::AdmissionAnswer;
+use stop_orders::Id;
+use stop_orders::IdKind;
+use stop_orders::LastPrice;
+use stop_orders::LayoutAnswer;
+use stop_orders::NewProtection;
+use stop_orders::Price;
+use stop_orders::PrintPath;
+use stop_orders::PrintSegment;
+use stop_orders::Protection;
+use stop_orders::Quantity;
+use stop_orders::Settings;
+use stop_orders::Side;
+use stop_orders::StopProtection;
+use stop_orders::StopTerms;
+use stop_orders::Uuid;
+use stop_orders::layout_store;
+use stop_orders::stop_trigger_order_id;
 
 const TOP: u64 = 0xffff_ffff_ffff_ffff;
 
@@ -90,7 +89,15 @@ fn admit(s: &mut [u64], id: Id, side: Side, stop: u64, watermark: u64, trail: u6
         trail: trail,
     };
     let one = Quantity(1);
-    let admission = admit_trailing_stop(s, no_path(), false, LastPrice::None, id, terms, one);
+    let admission = panel::admit_trailing_stop(
+        s,
+        no_path(),
+        false,
+        LastPrice::None,
+        id,
+        terms,
+        one,
+    );
     let answer = admission.answer;
     match answer {
         AdmissionAnswer::Ok(_) => {}

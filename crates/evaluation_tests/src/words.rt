@@ -1,7 +1,4 @@
-// The words and lists that the tests lend: read, written, copied and compared, whatever their number.
-
-// What every entry of a lent list holds before a call.
-const MARK: u64 = 7;
+// The words and lists of the tests: read, written, copied and compared, whatever their number.
 
 // The word at a place; 0 beyond the last.
 pub fn word(s: &[u64], p: usize) -> u64 {
@@ -42,11 +39,11 @@ pub fn same(s: &[u64], of: &[u64]) -> bool {
     true
 }
 
-// Whether every word is the mark.
-fn marked(s: &[u64]) -> bool {
+// Whether every word is zero.
+fn blank(s: &[u64]) -> bool {
     let mut i = 0;
     while i < s.len() {
-        if s[i] != MARK {
+        if s[i] != 0 {
             return false;
         }
         i += 1;
@@ -54,29 +51,11 @@ fn marked(s: &[u64]) -> bool {
     true
 }
 
-// Marks every entry of a list of the elected.
-pub fn mark_elected(list: &mut [[u64; 13]]) {
-    let mut i = 0;
-    while i < list.len() {
-        list[i] = [MARK; 13];
-        i += 1;
-    }
-}
-
-// Marks every entry of a list of the moved.
-pub fn mark_moved(list: &mut [[u64; 4]]) {
-    let mut i = 0;
-    while i < list.len() {
-        list[i] = [MARK; 4];
-        i += 1;
-    }
-}
-
-// Whether the entries from a place on are as they were marked.
+// Whether the entries from a place on are blank.
 pub fn elected_stay(list: &[[u64; 13]], from: u64) -> bool {
     let mut i = from as usize;
     while i < list.len() {
-        if !marked(&list[i]) {
+        if !blank(&list[i]) {
             return false;
         }
         i += 1;
@@ -84,11 +63,11 @@ pub fn elected_stay(list: &[[u64; 13]], from: u64) -> bool {
     true
 }
 
-// Whether the entries from a place on are as they were marked.
+// Whether the entries from a place on are blank.
 pub fn moved_stay(list: &[[u64; 4]], from: u64) -> bool {
     let mut i = from as usize;
     while i < list.len() {
-        if !marked(&list[i]) {
+        if !blank(&list[i]) {
             return false;
         }
         i += 1;

@@ -1,7 +1,7 @@
 // The longest input: 700 free records and 4,096 prices, all 0.
 use crate::lines::put_word;
 use forecasting::print_forecast;
-use store_words::layout_store;
+use stop_orders::layout_store;
 ghost use Prim.Native.Nat.{_*_, _≤_};
 ghost use mathlib.Core.Path.{_≡_};
 ghost use lib.ListN.{length};

@@ -1,18 +1,29 @@
 -- A walk over the words that were read is the walk that the input asks for.
 use Prim.Native.Nat.{ℕ}
-use mathlib.Core.List.{List, map}
-use mathlib.Core.Path.{_≡_}
+use native.Mathlib.Omega.{arith}
+use mathlib.Core.List.{List, map, _++_, append-nil}
+use mathlib.Core.Path.{_≡_, _∙_}
+use lib.ListN.{take, drop, drop-of-length-le}
+use lib.Seq.{take-all}
 use Rattle.error.specs.Answer.{Answer}
-use Rattle.book.specs.Calls.{Counts}
+use Rattle.book.specs.Calls.{Counts, walkCall}
+use Rattle.book.specs.Words.{mostRecords}
+use Rattle.book.specs.declared.Elected.{Elected}
 use Rattle.book.specs.declared.LastPrice.the-variants as last
 use Rattle.book.specs.declared.Settings.{Settings}
-use Rattle.evaluation.specs.Listed.{walkListed}
+use Rattle.panel.proofs.Rooms.{elections-length}
+use Rattle.panel.specs.Blanks.{blankElections}
 use Rattle.points.specs.Steps.{toPrice}
 use Rattle.forecasting.specs.Input.{wordsOf, storeIn, pricesIn, forecastSettings, forecastOf}
 
-pub walked-as : (s : Settings) (bytes w p : List ℕ) (answer : Answer Counts) (l after : List (List ℕ)) → s ≡ forecastSettings → w ≡ storeIn (wordsOf bytes) → p ≡ pricesIn (wordsOf bytes)
-    → answer ≡ walkListed s last.None (map toPrice p) w l .answer
-    → after ≡ walkListed s last.None (map toPrice p) w l .elected
-    → (answer ≡ forecastOf bytes l .answer) × (after ≡ forecastOf bytes l .elected)
+whole : take mostRecords blankElections ≡ blankElections
+whole = take-all mostRecords blankElections (omega (arith, elections-length))
+
+pub walked-as : (s : Settings) (bytes w p : List ℕ) (answer : Answer Counts) (listed : List Elected)
+    → s ≡ forecastSettings → w ≡ storeIn (wordsOf bytes) → p ≡ pricesIn (wordsOf bytes)
+    → answer ≡ walkCall s last.None (map toPrice p) w (take mostRecords blankElections) .answer
+    → listed ≡ walkCall s last.None (map toPrice p) w (take mostRecords blankElections) .elected ++ drop mostRecords blankElections
+    → (answer ≡ forecastOf bytes .answer) × (listed ≡ forecastOf bytes .elected)
 unfolding forecastOf
-walked-as s bytes w p answer l after q e f h g = (rw (← q, ← e, ← f) h, rw (← q, ← e, ← f) g)
+walked-as s bytes w p answer listed q e f h g =
+    (rw (← q, ← e, ← f, ← whole) h, g ∙ rw (q, e, f, whole, drop-of-length-le blankElections {i = mostRecords} (omega (arith, elections-length)), append-nil))

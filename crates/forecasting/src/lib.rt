@@ -6,6 +6,7 @@ mod print;
 use book::LastPrice;
 use book::Settings;
 use evaluation::EvaluationAnswer;
+use panel::WalkListing;
 use stop_protection::Protection;
 use uuid::Uuid;
 ghost use mathlib.Core.Path.{_≡_};
@@ -120,22 +121,17 @@ fn settings() -> Settings
 }
 
 // Walks an input's store along its prices, in slices that are as long as these.
-fn walk_input(
-    bytes: &[u8],
-    store: &mut [u64],
-    prices: &mut [u64],
-    elected: &mut [[u64; 13]],
-) -> EvaluationAnswer
+fn walk_input(bytes: &[u8], store: &mut [u64], prices: &mut [u64]) -> WalkListing
     requires { ⌜ length (now store) ≡ length (storeIn (wordsOf (now bytes))) ⌝ }
     requires { ⌜ length (now prices) ≡ length (pricesIn (wordsOf (now bytes))) ⌝ }
-    ensures { λ r. ⌜ toldCounts r ≡ forecastOf (now (bytes .entry)) (now (elected .entry)) .answer ⌝ }
-    ensures { λ _. ⌜ now (elected .exit) ≡ forecastOf (now (bytes .entry)) (now (elected .entry)) .elected ⌝ }
+    ensures { λ r. ⌜ toldCounts (r .answer) ≡ forecastOf (now (bytes .entry)) .answer ⌝ }
+    ensures { λ r. ⌜ r .elected ≡ forecastOf (now (bytes .entry)) .elected ⌝ }
 {
     let count = word_count(bytes);
     let at = count - prices.len();
     read_words(bytes, 0, store);
     read_words(bytes, at, prices);
-    evaluation::walk(store, settings(), LastPrice::None, prices, elected)
+    panel::walk(store, settings(), LastPrice::None, prices, 700)
 }
 
 fn longest_store() -> [u64; 7709]
@@ -152,23 +148,23 @@ fn most_prices() -> [u64; 4096]
 
 // Walks an input's store along its prices, the price before them absent. Refused: what the walk refuses, of no words where the
 // bytes are no multiple of 8 (1), of no prices where these are not as many as their count (16).
-pub fn forecast(bytes: &[u8], elected: &mut [[u64; 13]]) -> EvaluationAnswer
-    ensures { λ r. ⌜ toldCounts r ≡ forecastOf (now (bytes .entry)) (now (elected .entry)) .answer ⌝ }
-    ensures { λ _. ⌜ now (elected .exit) ≡ forecastOf (now (bytes .entry)) (now (elected .entry)) .elected ⌝ }
+pub fn forecast(bytes: &[u8]) -> WalkListing
+    ensures { λ r. ⌜ toldCounts (r .answer) ≡ forecastOf (now (bytes .entry)) .answer ⌝ }
+    ensures { λ r. ⌜ r .elected ≡ forecastOf (now (bytes .entry)) .elected ⌝ }
 {
     let mut store = longest_store();
     let mut prices = most_prices();
     let n = store_length(bytes);
     let c = price_count(bytes);
-    walk_input(bytes, &mut store[..n], &mut prices[..c], elected)
+    walk_input(bytes, &mut store[..n], &mut prices[..c])
 }
 
 // Writes the forecast of an input to standard output.
 pub fn print_forecast(bytes: &[u8]) {
-    let mut elected = [[0u64; 13]; 700];
-    let answer = forecast(bytes, &mut elected);
+    let walked = forecast(bytes);
+    let answer = walked.answer;
     match answer {
-        EvaluationAnswer::Ok(counts) => print::entries(&elected, counts.elected),
+        EvaluationAnswer::Ok(counts) => print::entries(walked, counts.elected),
         EvaluationAnswer::Err(refusal) => print::refusal(refusal),
     }
 }

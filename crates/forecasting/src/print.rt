@@ -1,5 +1,8 @@
 // A forecast on standard output: document 01's lines.
+use book::Elected;
 use error::Refusal;
+use panel::WalkListing;
+use pricelevel::Side;
 
 fn text(t: &[u8]) {
     io::write_all(1, t);
@@ -11,38 +14,42 @@ fn field(n: u64) {
     io::print_decimal(1, n);
 }
 
-fn side(word: u64) {
-    if word == 0 {
-        text(b" buy");
-    } else {
-        text(b" sell");
+fn side(side: Side) {
+    match side {
+        Side::Buy => text(b" buy"),
+        Side::Sell => text(b" sell"),
     }
 }
 
 // An elected entry: kind, high, low, side, stop, quantity, sequence, trigger.
-fn entry(e: &[u64; 13]) {
-    io::print_decimal(1, e[0]);
-    field(e[1]);
-    field(e[2]);
-    side(e[3]);
-    field(e[4]);
-    field(e[5]);
-    field(e[6]);
-    field(e[7]);
+fn entry(e: Elected) {
+    let id = e.id;
+    let kind = id.kind;
+    let of = e.side;
+    io::print_decimal(1, kind.number() as u64);
+    field(id.high);
+    field(id.low);
+    side(of);
+    field(e.stop.0);
+    field(e.quantity.0);
+    field(e.seq.0);
+    field(e.trigger.0);
     text(b"\n");
 }
 
 // The number elected, and a line for each entry.
-pub fn entries(elected: &[[u64; 13]], count: u64) {
+pub fn entries(walked: WalkListing, count: u64) {
+    let elected = walked.elected;
     text(b"elected");
     field(count);
     text(b"\n");
     let mut i: usize = 0;
-    while i < elected.len() {
+    while i < 700 {
         if i as u64 >= count {
             return;
         }
-        entry(&elected[i]);
+        let e = elected[i];
+        entry(e);
         i += 1;
     }
 }

@@ -3,6 +3,7 @@ ghost use mathlib.Core.Path.{_≡_};
 ghost use Prim.Native.Nat.{_+_, _-_, _*_, _/_, _%_, _^_, _≤_, _<_};
 ghost use mathlib.Core.List.{_++_};
 ghost use lib.ListN.{length, getD};
+ghost use Rattle.sha1.specs.declared.State.{State};
 ghost use Rattle.sha1.specs.Fips.{rotl, f, K, blockCount, pad, wordAt, nextWord, schedule, step, steps, sums, block, initial, hash, octets, digest};
 
 // The five words of a hash value, or the five working variables.
@@ -146,7 +147,7 @@ fn word(head: &[u8], tail: &[u8], j: usize) -> u32
     )
 }
 
-// Word t of the schedule of block i, from the words before it.
+// Word t of the schedule of block i, from the words before it. The one stored last is read last: it is waited for.
 fn next_word(head: &[u8], tail: &[u8], i: usize, w: &[u32; 80], t: usize) -> u32
     requires { ⌜ length (now head) ≤ 65536 ⌝ }
     requires { ⌜ (i < blockCount (length (now head) + length (now tail))) × (t < 80) ⌝ }
@@ -155,7 +156,11 @@ fn next_word(head: &[u8], tail: &[u8], i: usize, w: &[u32; 80], t: usize) -> u32
     if t < 16 {
         return word(head, tail, 16 * i + t);
     }
-    rotl(1, w[t - 3] ^ w[t - 8] ^ w[t - 14] ^ w[t - 16])
+    let d = w[t - 16];
+    let c = w[t - 14];
+    let b = w[t - 8];
+    let a = w[t - 3];
+    rotl(1, a ^ b ^ c ^ d)
 }
 
 // The message schedule of block i.
@@ -174,17 +179,28 @@ fn schedule(head: &[u8], tail: &[u8], i: usize) -> [u32; 80]
     w
 }
 
-// The eighty steps.
-fn steps(w: &[u32; 80], s: State) -> State
-    ensures { λ r. ⌜ r ≡ steps (now (w .entry)) 80 s ⌝ }
+// The steps from one on, up to another.
+fn steps_to(w: &[u32; 80], from: usize, to: usize, s: State) -> State
+    requires { ⌜ (from ≤ to) × (to ≤ 80) ⌝ }
+    ensures { λ r. ⌜ ((q : State) → s ≡ steps (now (w .entry)) from q → r ≡ steps (now (w .entry)) to q) ⌝ }
 {
     let mut r = s;
-    let mut t: usize = 0;
-    while t < 80 {
+    let mut t = from;
+    while t < to {
         r = step(t, w[t], r);
         t += 1;
     }
     r
+}
+
+// The eighty steps, in four parts: the steps of each have the same function and constant, so that its loop needs no branch.
+fn steps(w: &[u32; 80], s: State) -> State
+    ensures { λ r. ⌜ r ≡ steps (now (w .entry)) 80 s ⌝ }
+{
+    let first = steps_to(w, 0, 20, s);
+    let second = steps_to(w, 20, 40, first);
+    let third = steps_to(w, 40, 60, second);
+    steps_to(w, 60, 80, third)
 }
 
 // The hash value after block i, from the one before it.

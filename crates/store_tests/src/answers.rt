@@ -1,17 +1,17 @@
 // The answers of the calls: the number of a refusal, 0 for none; and what they say, printed.
 use crate::print;
 use crate::words;
-use admission::AdmissionAnswer;
-use admission::FindAnswer;
-use admission::QuantityAnswer;
-use admission::StopAnswer;
-use book::PrintPath;
-use book::StopEntry;
-use pricelevel::Quantity;
-use pricelevel::Seq;
-use store_words::LayoutAnswer;
-use store_words::Totals;
-use store_words::TwoWords;
+use stop_orders::AdmissionAnswer;
+use stop_orders::FindAnswer;
+use stop_orders::LayoutAnswer;
+use stop_orders::PrintPath;
+use stop_orders::Quantity;
+use stop_orders::QuantityAnswer;
+use stop_orders::Seq;
+use stop_orders::StopAnswer;
+use stop_orders::StopEntry;
+use stop_orders::Totals;
+use stop_orders::TwoWords;
 
 pub fn of_layout(a: LayoutAnswer) -> u64 {
     match a {

@@ -2,22 +2,20 @@
 use crate::answers;
 use crate::script::has;
 use crate::words::word;
-use admission::admit_trailing_stop;
-use admission::cancel_pending_stop;
-use admission::clear as clear_store;
-use admission::pending_stop_order;
-use admission::pending_stop_quantity;
-use admission::update_pending_stop;
-use book::LastPrice;
-use book::OrderUpdate;
-use book::PrintPath;
-use pricelevel::Id;
-use pricelevel::Price;
-use pricelevel::Quantity;
-use pricelevel::Side;
-use stop_terms::StopTerms;
-use store_words::kind_of;
-use store_words::layout_store;
+use stop_orders::Id;
+use stop_orders::IdKind;
+use stop_orders::LastPrice;
+use stop_orders::OrderUpdate;
+use stop_orders::Price;
+use stop_orders::PrintPath;
+use stop_orders::Quantity;
+use stop_orders::Side;
+use stop_orders::StopTerms;
+use stop_orders::cancel_pending_stop;
+use stop_orders::layout_store;
+use stop_orders::pending_stop_order;
+use stop_orders::pending_stop_quantity;
+use stop_orders::update_pending_stop;
 
 pub fn layout(s: &mut [u64], before: &[u64], n: &[u64]) {
     let number = answers::of_layout(layout_store(s, word(n, 0), word(n, 1)));
@@ -25,10 +23,18 @@ pub fn layout(s: &mut [u64], before: &[u64], n: &[u64]) {
     answers::refusal(number, &s[..], before);
 }
 
+fn kind(word: u64) -> IdKind {
+    match word {
+        0 => IdKind::Uuid,
+        1 => IdKind::Ulid,
+        _ => IdKind::Sequential,
+    }
+}
+
 // The identity that a line starts with: kind, high, low.
 fn id(n: &[u64]) -> Id {
     Id {
-        kind: kind_of(word(n, 0)),
+        kind: kind(word(n, 0)),
         high: word(n, 1),
         low: word(n, 2),
     }
@@ -72,7 +78,15 @@ pub fn admit(
     let quantity = Quantity(word(n, 6));
     let kill = has(line, b'k');
     let last = trade(line, n, count);
-    let admission = admit_trailing_stop(s, path, kill, last, id(n), terms(line, n), quantity);
+    let admission = panel::admit_trailing_stop(
+        s,
+        path,
+        kill,
+        last,
+        id(n),
+        terms(line, n),
+        quantity,
+    );
     let answer = admission.answer;
     answers::admission(answer);
     answers::refusal(answers::of_admission(answer), &s[..], before);
@@ -109,7 +123,7 @@ pub fn cancel(s: &mut [u64], before: &[u64], n: &[u64]) {
 }
 
 pub fn clear(s: &mut [u64], before: &[u64], path: PrintPath) -> PrintPath {
-    let cleared = clear_store(s, path);
+    let cleared = panel::clear(s, path);
     let answer = cleared.answer;
     let number = answers::of_layout(answer);
     answers::accepted(number);

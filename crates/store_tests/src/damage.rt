@@ -2,22 +2,20 @@
 use crate::answers;
 use crate::print;
 use crate::words;
-use admission::admit_trailing_stop;
-use admission::cancel_pending_stop;
-use admission::clear;
-use admission::pending_stop_order;
-use admission::pending_stop_quantity;
-use admission::update_pending_stop;
-use book::LastPrice;
-use book::OrderUpdate;
-use book::PrintPath;
-use form::well_formed;
-use pricelevel::Id;
-use pricelevel::IdKind;
-use pricelevel::Price;
-use pricelevel::Quantity;
-use pricelevel::Side;
-use stop_terms::StopTerms;
+use stop_orders::Id;
+use stop_orders::IdKind;
+use stop_orders::LastPrice;
+use stop_orders::OrderUpdate;
+use stop_orders::Price;
+use stop_orders::PrintPath;
+use stop_orders::Quantity;
+use stop_orders::Side;
+use stop_orders::StopTerms;
+use stop_orders::cancel_pending_stop;
+use stop_orders::pending_stop_order;
+use stop_orders::pending_stop_quantity;
+use stop_orders::update_pending_stop;
+use stop_orders::well_formed;
 
 const TOP: u64 = 0xffff_ffff_ffff_ffff;
 
@@ -49,7 +47,7 @@ fn admit(s: &mut [u64], low: u64, side: Side, stop: u64, watermark: u64, quantit
         trail: 10,
     };
     let of = Quantity(quantity);
-    let admission = admit_trailing_stop(s, no_path(), false, LastPrice::None, id, terms, of);
+    let admission = panel::admit_trailing_stop(s, no_path(), false, LastPrice::None, id, terms, of);
     let answer = admission.answer;
     answers::of_admission(answer)
 }
@@ -66,7 +64,7 @@ fn cancel(s: &mut [u64]) -> u64 {
 }
 
 fn cleared(s: &mut [u64]) -> u64 {
-    let all = clear(s, no_path());
+    let all = panel::clear(s, no_path());
     let answer = all.answer;
     answers::of_layout(answer)
 }

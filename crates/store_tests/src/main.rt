@@ -20,10 +20,10 @@ mod print;
 mod script;
 mod words;
 
-use book::PrintPath;
-use pricelevel::Price;
 use script::byte;
 use script::has;
+use stop_orders::Price;
+use stop_orders::PrintPath;
 use words::word;
 
 // How many words are lent, and the print path.

@@ -1,9 +1,9 @@
 // Text, numbers and words of a store on standard output.
 use crate::words;
-use error::Refusal;
-use pricelevel::Id;
-use pricelevel::Side;
-use stop_terms::StopTerms;
+use stop_orders::Id;
+use stop_orders::Refusal;
+use stop_orders::Side;
+use stop_orders::StopTerms;
 
 pub fn text(t: &[u8]) {
     io::write_all(1, t);

@@ -1,4 +1,5 @@
 pub mod Behind
+pub mod InOrder
 pub mod Inserting
 pub mod Mapped
 pub mod Moved

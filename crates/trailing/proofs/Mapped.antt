@@ -133,8 +133,11 @@ module _ (f : Slot → Slot) (k : Keeps f) where
         rw members-mapped at
         (differ-members ranked (members (chainSide c) 1 (map f (b .slots))) (members-ranks c (map f (b .slots)) (v .differ) (mf .slots)))
 
+    pub resorts : RanksDiffer ranked (chainIndices c b)
+    resorts i j hi hj = differ i j (rw (chain-members c b (bf .slots), has-sortBy) at hi) (rw (chain-members c b (bf .slots), has-sortBy) at hj)
+
     -- a chain, sorted anew
-    resorted : sortBy ranked (chainIndices c b) ≡ chainIndices c (mapped f b)
+    pub resorted : sortBy ranked (chainIndices c b) ≡ chainIndices c (mapped f b)
     resorted =
         rw (chain-members c b (bf .slots), chain-members c (mapped f b) (mf .slots), members-mapped)
         (sortBy-again ranked (rankIn c (b .slots)) here differ)
@@ -159,9 +162,7 @@ module _ (f : Slot → Slot) (k : Keeps f) where
           contents-rank h c j u (m .from) (rw (← h .records, length-map) (m .to)) (slot-mapped (b .slots) (j - 1) ∙ ap f (m .there) ∙ e)
 
       pub words-differ : RanksDiffer (rankAt c w) (chainIndices c b)
-      words-differ i j hi hj e =
-          differ i j (rw (chain-members c b (bf .slots), has-sortBy) at hi) (rw (chain-members c b (bf .slots), has-sortBy) at hj)
-          (sym (rank-words i hi) ∙ e ∙ rank-words j hj)
+      words-differ i j hi hj e = resorts i j hi hj (sym (rank-words i hi) ∙ e ∙ rank-words j hj)
 
       pub words-resorted : sortBy (rankAt c w) (chainIndices c b) ≡ chainIndices c (mapped f b)
       words-resorted = sortBy-cong (rankAt c w) ranked (chainIndices c b) rank-words ∙ resorted

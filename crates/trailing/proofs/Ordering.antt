@@ -20,7 +20,7 @@ use Rattle.pending_stops.proofs.Holding.{chainsOf, holds-stored}
 use Rattle.pending_stops.proofs.Storing.{contents-kept}
 use Rattle.pending_stops.specs.Stored.{Stored}
 use Rattle.trailing.proofs.Mapped.{Keeps, mapped, unmoved, words-differ, words-resorted}
-use Rattle.trailing.proofs.Relinking.{chained-same}
+use Rattle.trailing.proofs.Relinking.{kept-refl, chained-same, upd-itself}
 use Rattle.trailing.specs.Trail.{Unsorted}
 
 -- the chains of a side are two
@@ -59,21 +59,30 @@ module _ (f : Slot → Slot) (k : Keeps f) (b : Book) (bf : Fits b) (v : Valid (
     pub watermarks-ready : (ch : Name → List ℕ) × Chained n w2 ch × RanksDiffer (rankAt (ByWatermark side) w2) (ch (of (ByWatermark side)))
     watermarks-ready = (half, chained2, watermarks-differ)
 
-    module _ (w3 : List ℕ) (k3 : Kept n w2 w3) (s3 : Resorted n w2 w3 (ByWatermark side)) where
-      chained3 : Chained n w3 (upd (of (ByWatermark side)) (chainIndices (ByWatermark side) (mapped f b)) half)
-      chained3 =
-          rw (watermarks, words-resorted f k b bf v mf (ByWatermark side) (contents-kept (u .contents) w2 k2)) at (s3 half chained2 watermarks-differ)
+    abbrev whole : Name → List ℕ
+    whole = upd (of (ByWatermark side)) (chainIndices (ByWatermark side) (mapped f b)) half
 
-      same : (a : Name) → upd (of (ByWatermark side)) (chainIndices (ByWatermark side) (mapped f b)) half a ≡ chainsOf (mapped f b) a
-      same =
-          upd-all (λ a l. l ≡ chainsOf (mapped f b) a) (of (ByWatermark side)) _ half refl
-          (λ a nw. upd-all (λ a l. of (ByWatermark side) ≢ a → l ≡ chainsOf (mapped f b) a) (of (ByStop side)) _ (chainsOf b) (λ _. refl) rest a nw)
-        where
-          rest : (a : Name) → of (ByStop side) ≢ a → of (ByWatermark side) ≢ a → chainsOf b a ≡ chainsOf (mapped f b) a
-          rest (of c) ns nw = unmoved f k b bf v mf c (λ t e. others t (λ q. of-other-side side c ns nw (e ∙ sym q)))
-          rest free ns nw = refl
+    same : (a : Name) → whole a ≡ chainsOf (mapped f b) a
+    same =
+        upd-all (λ a l. l ≡ chainsOf (mapped f b) a) (of (ByWatermark side)) _ half refl
+        (λ a nw. upd-all (λ a l. of (ByWatermark side) ≢ a → l ≡ chainsOf (mapped f b) a) (of (ByStop side)) _ (chainsOf b) (λ _. refl) rest a nw)
+      where
+        rest : (a : Name) → of (ByStop side) ≢ a → of (ByWatermark side) ≢ a → chainsOf b a ≡ chainsOf (mapped f b) a
+        rest (of c) ns nw = unmoved f k b bf v mf c (λ t e. others t (λ q. of-other-side side c ns nw (e ∙ sym q)))
+        rest free ns nw = refl
 
-      pub sorted-stored : Stored n w3 (mapped f b) r
-      sorted-stored =
-          holds-stored n w3 (mapped f b) r v mf
-          (record { contents = contents-kept (contents-kept (u .contents) w2 k2) w3 k3; chained = chained-same n w3 _ _ same chained3 })
+    whole-stored : (w3 : List ℕ) → Kept n w2 w3 → Chained n w3 whole → Stored n w3 (mapped f b) r
+    whole-stored w3 k3 chained3 =
+        holds-stored n w3 (mapped f b) r v mf
+        (record { contents = contents-kept (contents-kept (u .contents) w2 k2) w3 k3; chained = chained-same n w3 _ _ same chained3 })
+
+    pub sorted-stored : (w3 : List ℕ) → Kept n w2 w3 → Resorted n w2 w3 (ByWatermark side) → Stored n w3 (mapped f b) r
+    sorted-stored w3 k3 s3 =
+        whole-stored w3 k3
+        (rw (watermarks, words-resorted f k b bf v mf (ByWatermark side) (contents-kept (u .contents) w2 k2)) at (s3 half chained2 watermarks-differ))
+
+    -- the watermark chain was in order
+    pub same-stored : chainIndices (ByWatermark side) (mapped f b) ≡ chainIndices (ByWatermark side) b → Stored n w2 (mapped f b) r
+    same-stored e =
+        whole-stored w2 (kept-refl n w2)
+        (chained-same n w2 half whole (upd-itself (of (ByWatermark side)) (chainIndices (ByWatermark side) (mapped f b)) half (e ∙ sym watermarks)) chained2)

@@ -50,12 +50,12 @@ later-past side price t u f g lt h =
     past-trans side price (watermarkOf t) (watermarkOf u) h
     (watermarks-past side t u (before-rank (ByWatermark side) t u f g ∙ lt-ltb (rank (ByWatermark side) t) (rank (ByWatermark side) u) lt))
 
-chain-ascending : (c : Chain) (b : Book) → Valid b → Fits b → Ascending (rankIn c (b .slots)) (chainIndices c b)
+pub chain-ascending : (c : Chain) (b : Book) → Valid b → Fits b → Ascending (rankIn c (b .slots)) (chainIndices c b)
 chain-ascending c b v f =
     rw (chain-members c b (f .slots))
     (sortBy-ascending (rankIn c (b .slots)) (members (chainSide c) 1 (b .slots)) (members-ranks c (b .slots) (v .differ) (f .slots)))
 
-ascending-rest : (rk : ℕ → ℕ) (f l : List ℕ) → Ascending rk (f ++ l) → Ascending rk l
+pub ascending-rest : (rk : ℕ → ℕ) (f l : List ℕ) → Ascending rk (f ++ l) → Ascending rk l
 ascending-rest rk [] l a = a
 ascending-rest rk (i ∷ f) l a = ascending-rest rk f l (a .1)
 

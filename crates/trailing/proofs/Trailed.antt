@@ -1,16 +1,18 @@
 -- The stops of a side have trailed, and its chains are put in order: then the words are those of the book after trailing.
 use Prim.Native.Nat.{ℕ, _<_, _^_}
+use mathlib.Core.Path.{_≡_}
 use mathlib.Core.List.{List}
 use Rattle.pricelevel.specs.declared.Price.{Price}
 use Rattle.pricelevel.specs.declared.Side.{Side}
 use Rattle.book.proofs.Steps.{trailedSlot, trailedOn}
 use Rattle.book.specs.Book.{Book}
+use Rattle.book.specs.Words.{chainIndices}
 use Rattle.book.specs.declared.Chain.the-variants.{ByStop, ByWatermark}
 use Rattle.chains.proofs.Sorting.{RanksDiffer}
 use Rattle.chains.specs.Chained.{Name, of, Chained, Kept}
 use Rattle.chains.specs.Rank.{rankAt}
 use Rattle.pending_stops.specs.Stored.{Stored}
-use Rattle.trailing.proofs.Ordering.{Resorted, stops-ready, watermarks-ready, sorted-stored}
+use Rattle.trailing.proofs.Ordering.{Resorted, stops-ready, watermarks-ready, sorted-stored, same-stored}
 use Rattle.trailing.proofs.Slots.{trailedSlot-other, trailedSlot-keeps, trailedOn-valid, trailedOn-fits}
 use Rattle.trailing.specs.Trail.{Unsorted}
 
@@ -34,3 +36,10 @@ module _ (n : ℕ) (w0 : List ℕ) (b : Book) (r : List ℕ) (side : Side) (pric
     trailed-stored w3 k3 s3 =
         sorted-stored (trailedSlot side price) (trailedSlot-keeps side price) b (st .fits) (trailedOn-valid side price b (st .valid))
         (trailedOn-fits side price b fits (st .fits)) side (trailedSlot-other side price) n w1 r u w2 k2 s2 w3 k3 s3
+
+    pub trailed-same : chainIndices (ByWatermark side) (trailedOn side price b) ≡ chainIndices (ByWatermark side) b
+        → Stored n w2 (trailedOn side price b) r
+    unfolding trailedOn
+    trailed-same e =
+        same-stored (trailedSlot side price) (trailedSlot-keeps side price) b (st .fits) (trailedOn-valid side price b (st .valid))
+        (trailedOn-fits side price b fits (st .fits)) side (trailedSlot-other side price) n w1 r u w2 k2 s2 e

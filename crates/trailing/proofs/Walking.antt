@@ -1,7 +1,7 @@
 -- The walk along a watermark chain that trails its stops: what stands when it has come to a record, and what each turn makes of it.
-use Prim.Native.Nat.{ℕ, suc, _+_, _-_, _≤_}
+use Prim.Native.Nat.{ℕ, suc, _+_, _-_, _≤_, _<_, _^_}
 use mathlib.Core.Path.{_≡_, refl, sym, ap, _∙_}
-use mathlib.Core.Bool.{false, cond}
+use mathlib.Core.Bool.{Bool, true, false, cond}
 use mathlib.Core.List.{List, [], _∷_, _++_, append-assoc, map}
 use native.Mathlib.Omega.{arith}
 use borrow.Author.Tests.{eqb-true, eqb-false, ne-eqb}
@@ -12,6 +12,7 @@ use lib.Seq.{getD-set-same, getD-set-other, ext-getD, sets, length-sets}
 use Rattle.pricelevel.specs.declared.Price.{Price}
 use Rattle.pricelevel.specs.declared.Side.{Side}
 use Rattle.stop_terms.specs.Terms.{behind}
+use Rattle.book.proofs.Lists.{All, all-map}
 use Rattle.book.proofs.Steps.{trailedSlot, trailedOn}
 use Rattle.book.specs.Book.{Slot, vacant, held, Book, chainSide, sideOf, stopOf, watermarkOf, pendingCount}
 use Rattle.book.specs.Evaluation.{trailed, movedOn}
@@ -21,26 +22,29 @@ use Rattle.book.specs.declared.Chain.the-variants.{ByWatermark}
 use Rattle.book.specs.declared.StopEntry.{StopEntry}
 use Rattle.chains.proofs.Data.{chained-sets}
 use Rattle.chains.proofs.Linking.{linked-distinct, linked-length}
-use Rattle.chains.proofs.Members.{has-none, has-here, distinct-absent}
+use Rattle.chains.proofs.Members.{has-none, has-here, has-all, distinct-absent}
 use Rattle.chains.specs.Chained.{of, Chained}
 use Rattle.chains.specs.Indices.{has}
 use Rattle.chains.specs.Links.{headOf, linkOf, Linked}
+use Rattle.chains.specs.Rank.{rankAt}
 use Rattle.chains.specs.Records.{dataLength, Record}
-use Rattle.form.proofs.Members.{Member}
+use Rattle.form.proofs.Ascending.{Ascending, ascending-alike}
+use Rattle.form.proofs.Members.{rankOfSlot, rankIn, Member}
 use Rattle.pending_stops.proofs.ChainChanges.{chain-member, member-chain}
 use Rattle.pending_stops.proofs.Holding.{Contents, chainsOf, stored-holds}
-use Rattle.pending_stops.proofs.Storing.{dataWords-length, contents-data, contents-entry}
+use Rattle.pending_stops.proofs.Storing.{dataWords-length, contents-data, contents-entry, contents-rank}
 use Rattle.pending_stops.specs.Stored.{Stored, dataWords}
 use Rattle.trailing.proofs.Behind.{behind-none, behind-some}
+use Rattle.trailing.proofs.InOrder.{still-so, ends-so, ranked, Order, order-begins, order-next, order-ends}
 use Rattle.trailing.proofs.Inserting.{has-back}
 use Rattle.trailing.proofs.Mapped.{slot-mapped, pendingCount-mapped}
 use Rattle.trailing.proofs.Moved.{movesSlot, movesIn, movesIn-next, movesIn-none, chain-moves}
-use Rattle.trailing.proofs.Passed.{rest-past}
+use Rattle.trailing.proofs.Passed.{chain-ascending, ascending-rest, rest-past}
 use Rattle.trailing.proofs.Relinking.{wordAfter-end, linked-after, word-room}
 use Rattle.trailing.proofs.Slots.{moves-still, trailedSlot-vacant, trailedSlot-own, trailedSlot-other, trailedSlot-still, trailedSlot-keeps}
 use Rattle.trailing.proofs.Writing.{trailed-words}
 use Rattle.trailing.specs.Resort.{wordAfter}
-use Rattle.trailing.specs.Trail.{Names, ifBehind, moves, Unsorted}
+use Rattle.trailing.specs.Trail.{Names, ifBehind, moves, stillInOrder, endsInOrder, Unsorted}
 
 module _ (n : ℕ) (side : Side) (price : Price) (b : Book) (r : List ℕ) where
   abbrev own : Chain
@@ -137,6 +141,14 @@ module _ (n : ℕ) (side : Side) (price : Price) (b : Book) (r : List ℕ) where
               rest-past side (price .0) b (st .valid) (st .fits) (s .front) i l (rw e at (s .is)) (member i here) (rw (entry i here) at first)
               j (rw e at t) (member j t)
 
+      side-same : ifBehind side price w (getD w p 0) ≡ 0 → (j : ℕ) (t : T (has j (s .rest)))
+          → behind (sideOf (member j t .entry)) (watermarkOf (member j t .entry)) (price .0) ≡ false
+      side-same z j t = ap (λ (d : Side). behind d (watermarkOf (member j t .entry)) (price .0)) (sym (member j t .of-side)) ∙ still z j t
+
+      -- and so they stay
+      keeps : ifBehind side price w (getD w p 0) ≡ 0 → (j : ℕ) (t : T (has j (s .rest))) → new j ≡ held (member j t .entry)
+      keeps z j t = rw (member j t .there) (trailedSlot-still side price (member j t .entry) (member j t .of-side) (side-same z j t))
+
       ends : ifBehind side price w (getD w p 0) ≡ 0 → (s .slots ≡ map (trailedSlot side price) (b .slots)) × (moved ≡ length (movedOn price side b))
       ends z = (
         ext-getD vacant (s .slots) (map (trailedSlot side price) (b .slots))
@@ -145,18 +157,13 @@ module _ (n : ℕ) (side : Side) (price : Price) (b : Book) (r : List ℕ) where
         omega (arith, s .count, movesIn-none price (b .slots) (s .rest) none),
       )
         where
-          side-same : (j : ℕ) (t : T (has j (s .rest))) → behind (sideOf (member j t .entry)) (watermarkOf (member j t .entry)) (price .0) ≡ false
-          side-same j t = ap (λ (d : Side). behind d (watermarkOf (member j t .entry)) (price .0)) (sym (member j t .of-side)) ∙ still z j t
-
           all : (j : ℕ) → 1 ≤ j → j ≤ n → getD (s .slots) (j - 1) vacant ≡ getD (map (trailedSlot side price) (b .slots)) (j - 1) vacant
           all j low high = rw (slot-mapped (trailedSlot side price) (trailedSlot-keeps side price) (b .slots) (j - 1)) (cases (has j (s .rest))
-              (λ e.
-              let t : T (has j (s .rest)) = rw e tt in
-              waits j t ∙ sym (rw (member j t .there) (trailedSlot-still side price (member j t .entry) (member j t .of-side) (side-same j t))))
+              (λ e. let t : T (has j (s .rest)) = rw e tt in waits j t ∙ sym (keeps z j t))
               (λ e. rw e at (s .holds j low high)))
 
           none : (j : ℕ) → T (has j (s .rest)) → movesSlot price (old j) ≡ 0
-          none j t = rw (member j t .there) (moves-still price (member j t .entry) (side-same j t))
+          none j t = rw (member j t .there) (moves-still price (member j t .entry) (side-same z j t))
 
       ends-unsorted : (i : ℕ) → i ≡ ifBehind side price w (getD w p 0) → i ≡ 0
           → (moved ≡ length (movedOn price side b)) × Unsorted n w b (trailedOn side price b) r
@@ -165,6 +172,35 @@ module _ (n : ℕ) (side : Side) (price : Price) (b : Book) (r : List ℕ) where
           let e = ends (sym q ∙ z) in
           let count = pendingCount-mapped (trailedSlot side price) (trailedSlot-keeps side price) (b .slots) in
           (e .1, record { contents = rw (e .0, ← count) at (s .contents); chained = s .chained })
+
+      -- ranks of those to come, by the words and in both books
+      ranks-keep : ifBehind side price w (getD w p 0) ≡ 0 → (j : ℕ) → T (has j (s .rest)) → rankIn own (b .slots) j ≡ ranked side price b j
+      ranks-keep z j t =
+          ap (rankOfSlot own)
+          (member j t .there ∙ sym (keeps z j t) ∙ sym (slot-mapped (trailedSlot side price) (trailedSlot-keeps side price) (b .slots) (j - 1)))
+
+      rank-waits : (j : ℕ) → T (has j (s .rest)) → rankAt own w j ≡ rankIn own (b .slots) j
+      rank-waits j t =
+          contents-rank (s .contents) own j (member j t .entry) (member j t .from) (to-come-most j t) (waits j t)
+          ∙ ap (rankOfSlot own) (waits j t ∙ sym (member j t .there))
+
+      -- what was in order so far stays so, if the first of those to come does not rank below
+      ends-in-order : ifBehind side price w (getD w p 0) ≡ 0 → (x : ℕ) → Order side price b (s .front) (s .rest) x
+          → (1 ≤ getD w p 0 → x ≤ rankAt own w (getD w p 0)) → chainIndices own (trailedOn side price b) ≡ chainIndices own b
+      ends-in-order z x o le = order-ends side price b (s .front) (s .rest) x (s .is) o (over (s .rest) refl to-come ascends) ascends
+        where
+          ascends : Ascending (ranked side price b) (s .rest)
+          ascends =
+              ascending-alike (rankIn own (b .slots)) (ranked side price b) (s .rest)
+              (has-all (λ j. rankIn own (b .slots) j ≡ ranked side price b j) (s .rest) (ranks-keep z))
+              (ascending-rest (rankIn own (b .slots)) (s .front) (s .rest) (rw (s .is) at (chain-ascending own b (st .valid) (st .fits))))
+
+          over : (l : List ℕ) → s .rest ≡ l → Linked n w (linkOf own) p l → Ascending (ranked side price b) l → All (λ j. x ≤ ranked side price b j) l
+          over [] e d a = tt
+          over (i ∷ l) e d a =
+              let here : T (has i (s .rest)) = rw e (has-here i l) in
+              let first : x ≤ ranked side price b i = omega (arith, rw (d .0) at (le (omega (arith, d .0, d .1))), rank-waits i here, ranks-keep z i here) in
+              (first, all-map {P = λ j. ranked side price b i < ranked side price b j} {Q = λ j. x ≤ ranked side price b j} (λ j h. omega arith) l (a .0))
 
       ------------------------------------------------------------------------
       -- The walk goes on
@@ -204,11 +240,14 @@ module _ (n : ℕ) (side : Side) (price : Price) (b : Book) (r : List ℕ) where
         abbrev slots' : List Slot
         slots' = set (s .slots) (i - 1) (held (trailed price stop))
 
+        set-here : getD slots' (i - 1) vacant ≡ held (trailed price stop)
+        set-here = getD-set-same (s .slots) (i - 1) (held (trailed price stop)) vacant (omega (arith, m .at .least, m .at .most, s .contents .records))
+
+        new-here : new i ≡ held (trailed price stop)
+        new-here = ap (trailedSlot side price) (member i here .there) ∙ trailedSlot-own side price stop (member i here .of-side)
+
         here-new : getD slots' (i - 1) vacant ≡ cond (has i (m .after)) (old i) (new i)
-        here-new =
-            rw gone
-            (getD-set-same (s .slots) (i - 1) (held (trailed price stop)) vacant (omega (arith, m .at .least, m .at .most, s .contents .records))
-            ∙ sym (ap (trailedSlot side price) (member i here .there) ∙ trailedSlot-own side price stop (member i here .of-side)))
+        here-new = rw gone (set-here ∙ sym new-here)
 
         other-same : (j : ℕ) → 1 ≤ j → j ≤ n → (i ≡ j → ⊥) → getD slots' (j - 1) vacant ≡ cond (has j (m .after)) (old j) (new j)
         unfolding has
@@ -226,6 +265,14 @@ module _ (n : ℕ) (side : Side) (price : Price) (b : Book) (r : List ℕ) where
               (rw (entry i here) at ew)
               ∙ trailed-words w i stop price (λ k l. rw (waits i here) at (s .contents .words i k (m .at .least) (m .at .most) l))
 
+          chained-new : Chained n w' (chainsOf b)
+          chained-new =
+              let few : length (dataWords (held (trailed price stop))) ≤ dataLength = omega (arith, dataWords-length (held (trailed price stop))) in
+              rw written (chained-sets n w (chainsOf b) i (dataWords (held (trailed price stop))) (m .at .least) few (s .chained))
+
+          contents-new : Contents n w' (pendingCount (b .slots)) (b .next) (b .tick) slots' r
+          contents-new = rw written (contents-data (s .contents) i (m .at) (held (trailed price stop)))
+
           goes-on : (p' moved' : ℕ) → p' ≡ cell i (linkOf own) → moved' ≡ moved + moves price (entryAt w i) → Walked w' p' moved' (left - 1)
           goes-on p' moved' ep em = record {
             front = s .front ++ (i ∷ []);
@@ -233,14 +280,19 @@ module _ (n : ℕ) (side : Side) (price : Price) (b : Book) (r : List ℕ) where
             slots = slots';
             is = s .is ∙ ap (λ (l : List ℕ). s .front ++ l) (m .is) ∙ sym (append-assoc (s .front) (i ∷ []) (m .after));
             at = ep ∙ sym (wordAfter-end (linkOf own) (headOf own) (s .front) i);
-            chained =
-                let few : length (dataWords (held (trailed price stop))) ≤ dataLength = omega (arith, dataWords-length (held (trailed price stop))) in
-                rw written (chained-sets n w (chainsOf b) i (dataWords (held (trailed price stop))) (m .at .least) few (s .chained));
-            contents = rw written (contents-data (s .contents) i (m .at) (held (trailed price stop)));
+            chained = chained-new;
+            contents = contents-new;
             holds = λ j low high. cases (eqb i j) (λ e. rw (← eqb-true i j e) here-new) (λ e. other-same j low high (eqb-false i j e));
             short = omega (arith, s .short, ap length (m .is));
             count = omega (arith, em, s .count, movesIn-next price (b .slots) i (m .after), ap (movesIn price (b .slots)) (m .is), same-moves);
           }
+
+          -- it ranks then as in the book after
+          rank-new : rankAt own w' i ≡ ranked side price b i
+          rank-new =
+              contents-rank contents-new own i (trailed price stop) (m .at .least) (m .at .most) set-here
+              ∙ ap (rankOfSlot own)
+              (set-here ∙ sym new-here ∙ sym (slot-mapped (trailedSlot side price) (trailedSlot-keeps side price) (b .slots) (i - 1)))
 
 -- where the price has passed no stop of the side, nothing changes
 pub idle-stored : (n : ℕ) (w : List ℕ) (b : Book) (r : List ℕ) (side : Side) (price : Price) → Stored n w b r
@@ -259,41 +311,69 @@ moves-most price t m h = cases (eqb (stopOf (trailed price t)) (stopOf t)) (λ e
 -- The turns of the loop, for whatever book the words w0 are those of
 
 module _ (n : ℕ) (w0 : List ℕ) (side : Side) (price : Price) where
-  pub record Trailing (w : List ℕ) (p moved left : ℕ) : Type 0 where
+  pub record Trailing (w : List ℕ) (p moved : ℕ) (sorted : Bool) (x left : ℕ) : Type 0 where
     pub size : length w ≡ length w0
     pub bound : moved + left ≤ n
     pub walked : (b : Book) (r : List ℕ) → Stored n w0 b r → Walked n side price b r w p moved left
+    pub order : (b : Book) (r : List ℕ) (st : Stored n w0 b r) → sorted ≡ true
+        → Order side price b (walked b r st .front) (walked b r st .rest) x
 
-  pub trailing-begins : (h : ℕ) → h ≡ headOf (ByWatermark side) → Trailing w0 h 0 n
-  trailing-begins h e = record { size = refl; bound = omega arith; walked = λ b r st. begins n side price b r w0 st h e }
+  pub trailing-begins : (h : ℕ) → h ≡ headOf (ByWatermark side) → price .0 < 2 ^ 64 → Trailing w0 h 0 true 0 n
+  unfolding begins
+  trailing-begins h e fits = record {
+    size = refl;
+    bound = omega arith;
+    walked = λ b r st. begins n side price b r w0 st h e;
+    order = λ b r st _. order-begins side price b (st .valid) (st .fits) fits;
+  }
 
-  module _ (w : List ℕ) (p moved left : ℕ) (v : Trailing w p moved left) (i : ℕ) (ei : i ≡ ifBehind side price w (getD w p 0)) where
+  module _ (w : List ℕ) (p moved : ℕ) (sorted : Bool) (x left : ℕ) (v : Trailing w p moved sorted x left)
+      (i : ℕ) (ei : i ≡ ifBehind side price w (getD w p 0)) where
     pub turn-ends : i ≡ 0 → (b : Book) (r : List ℕ) → Stored n w0 b r
         → (moved ≡ length (movedOn price side b)) × Unsorted n w b (trailedOn side price b) r
     turn-ends z b r st = ends-unsorted n side price b r w0 st w p moved left (v .walked b r st) i ei z
 
+    pub turn-sorted : i ≡ 0 → (t : Bool) → t ≡ endsInOrder sorted x (ByWatermark side) w (getD w p 0) → (b : Book) (r : List ℕ) → Stored n w0 b r
+        → t ≡ true → chainIndices (ByWatermark side) (trailedOn side price b) ≡ chainIndices (ByWatermark side) b
+    turn-sorted z t et b r st h =
+        let so = ends-so sorted x (ByWatermark side) w (getD w p 0) (sym et ∙ h) in
+        ends-in-order n side price b r w0 st w p moved left (v .walked b r st) (sym ei ∙ z) x (v .order b r st (so .0)) (so .1)
+
     module _ (z : i ≡ 0 → ⊥) where
       -- the book that there is
       module _ (b : Book) (r : List ℕ) (st : Stored n w0 b r) where
+        turn-next : Next n side price b r w0 st w p moved left (v .walked b r st) i
+        turn-next = next n side price b r w0 st w p moved left (v .walked b r st) i ei z
+
         pub turn-record : Record n w i
-        turn-record = next n side price b r w0 st w p moved left (v .walked b r st) i ei z .at
+        turn-record = turn-next .at
 
         pub turn-left : 1 ≤ left
-        turn-left =
-            let s = v .walked b r st in
-            some-left n side price b r w0 st w p moved left s i (next n side price b r w0 st w p moved left s i ei z)
+        turn-left = some-left n side price b r w0 st w p moved left (v .walked b r st) i turn-next
 
       module _ (m : ℕ) (em : m ≡ moves price (entryAt w i)) (some : 1 ≤ left) where
         pub turn-most : moved + m ≤ n
         turn-most = omega (arith, v .bound, moves-most price (entryAt w i) m em)
 
-        pub turn-on : (w' : List ℕ) → w' ≡ sets w (cell i 4) (stopOf (trailed price (entryAt w i)) ∷ watermarkOf (trailed price (entryAt w i)) ∷ [])
-            → (p' : ℕ) → p' ≡ cell i (linkOf (ByWatermark side)) → Trailing w' p' (moved + m) (left - 1)
-        turn-on w' ew p' ep = record {
-          size = rw (ew, length-sets) (v .size);
-          bound = omega (arith, v .bound, moves-most price (entryAt w i) m em);
-          walked = λ b r st.
-              let s = v .walked b r st in
-              let next = next n side price b r w0 st w p moved left s i ei z in
-              goes-on n side price b r w0 st w p moved left s i next w' ew p' (moved + m) ep (rw em);
-        }
+        module _ (w' : List ℕ)
+            (ew : w' ≡ sets w (cell i 4) (stopOf (trailed price (entryAt w i)) ∷ watermarkOf (trailed price (entryAt w i)) ∷ [])) where
+          pub turn-written : (b : Book) (r : List ℕ) → Stored n w0 b r → Record n w' i
+          turn-written b r st =
+              let m = turn-next b r st in
+              let c = chained-new n side price b r w0 st w p moved left (v .walked b r st) i m w' ew in
+              record { least = m .at .least; most = m .at .most; inside = c .inside }
+
+          pub turn-on : (p' : ℕ) → p' ≡ cell i (linkOf (ByWatermark side)) → (y : ℕ) → y ≡ rankAt (ByWatermark side) w' i
+              → (t : Bool) → t ≡ stillInOrder sorted x y → Trailing w' p' (moved + m) t y (left - 1)
+          unfolding goes-on
+          turn-on p' ep y ey t et = record {
+            size = rw (ew, length-sets) (v .size);
+            bound = omega (arith, v .bound, moves-most price (entryAt w i) m em);
+            walked = λ b r st.
+                goes-on n side price b r w0 st w p moved left (v .walked b r st) i (turn-next b r st) w' ew p' (moved + m) ep (rw em);
+            order = λ b r st h.
+                let so = still-so sorted x y (sym et ∙ h) in
+                let s = v .walked b r st in
+                order-next side price b (s .front) i (turn-next b r st .after) x y (rw (turn-next b r st .is) at (v .order b r st (so .0))) (so .1)
+                (ey ∙ rank-new n side price b r w0 st w p moved left s i (turn-next b r st) w' ew);
+          }

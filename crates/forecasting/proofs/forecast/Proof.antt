@@ -26,7 +26,7 @@ slice-aggregate-walk-input-2 c = sym (length-take-le _ _ (array-borrow-prefix-pr
 
 walk-input-requires : tie.Need-walk-input-requires
 walk-input-requires c κs =
-    let b = c .before .before in (
+    let b = c .before in (
       length-take-le _ _ (array-borrow-prefix-store (b .before)) ∙ b .before .before .store-length .ensures,
       length-take-le _ _ (array-borrow-prefix-prices b) ∙ b .before .price-count .ensures,
     )
@@ -44,5 +44,4 @@ forecast-spec =
     array-borrow-prefix-prices
     slice-aggregate-walk-input-2
     walk-input-requires
-    (λ c. search needs)
     (λ c. search needs))

@@ -22,14 +22,14 @@ read-words-requires-2 c κs =
 
 returns : tie.Need-returns
 returns c =
-    let after = c .before .before .before in
-    let second = after .before .before .before .before .before .before .before in
+    let after = c .before .before in
+    let second = after .before .before .before .before .before .before in
     let first = second .before .before .before .before in
     let counted = first .before .before in
     let start = counted .before .before .before .before in
     let store = store-read (start .args .bytes .now) _ _ (start .pre .0) (first .read-words .ensures) in
     let prices = prices-read (start .args .bytes .now) _ _ _ (counted .word-count .ensures) (start .pre .1) (second .read-words2 .ensures) in
-    walked-as _ (start .args .bytes .now) _ _ _ _ _ (after .before .before .before .settings .ensures) store prices (after .walk .ensures .0) (after .walk .ensures .1 .1)
+    walked-as _ (start .args .bytes .now) _ _ _ _ (after .before .before .settings .ensures) store prices (after .walk .ensures .0) (after .walk .ensures .1 .0)
 
 pub walk-input-spec : {M : Type 1} → statement M
 walk-input-spec =
@@ -41,7 +41,6 @@ walk-input-spec =
     read-words-requires-2
     (λ c κs. search needs)
     (λ c κs. search needs)
-    (λ c. search needs)
     (λ c. search needs)
     (λ c. search needs)
     returns)

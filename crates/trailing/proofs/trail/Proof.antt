@@ -1,7 +1,7 @@
 -- `trailing::trail` meets its contract.
 use native.Mathlib.Omega.{arith}
 use borrow.Author.Needs.{needs}
-use Rattle.trailing.proofs.Trailed.{trailed-stops, trailed-watermarks, trailed-stored}
+use Rattle.trailing.proofs.Trailed.{trailed-stops, trailed-watermarks, trailed-stored, trailed-same}
 use Rattle.trailing.proofs.Walking.{begins, names, idle-stored}
 use Rattle.trailing.proofs.trail.Statement.{statement}
 use Rattle.trailing.proofs.trail.Tie as tie
@@ -23,26 +23,37 @@ resort-requires c κs =
     let t = c .before .before .before in
     let start = t .before .before .before .before .before .before .before in
     let (b, r, st) = start .pre in
-    trailed-stops _ _ b r _ _ st (omega (arith, start .good)) _ (t .trail-records .ensures b r st .1)
+    trailed-stops _ _ b r _ _ st (omega (arith, start .good)) _ (t .trail-records .ensures .0 b r st .1)
 
 resort-requires-2 : tie.Need-resort-requires-2
 resort-requires-2 c κs =
-    let o = c .before .before .before in
+    let o = c .before .before .before .before in
     let t = o .before .before .before .before in
     let start = t .before .before .before .before .before .before .before in
     let (b, r, st) = start .pre in
-    trailed-watermarks _ _ b r _ _ st (omega (arith, start .good)) _ (t .trail-records .ensures b r st .1)
+    trailed-watermarks _ _ b r _ _ st (omega (arith, start .good)) _ (t .trail-records .ensures .0 b r st .1)
     _ (o .resort .ensures .0) (o .resort .ensures .1)
 
 returns-2 : tie.Need-returns-2
 returns-2 c =
-    let x = c .before .before in
-    let o = x .before .before .before .before in
+    let o = c .before .before .before in
     let t = o .before .before .before .before in
     let start = t .before .before .before .before .before .before .before in
     λ b r st. (
-      t .trail-records .ensures b r st .0,
-      trailed-stored _ _ b r _ _ st (omega (arith, start .good)) _ (t .trail-records .ensures b r st .1)
+      t .trail-records .ensures .0 b r st .0,
+      trailed-same _ _ b r _ _ st (omega (arith, start .good)) _ (t .trail-records .ensures .0 b r st .1)
+          _ (o .resort .ensures .0) (o .resort .ensures .1) (t .trail-records .ensures .1 b r st (c .if2 .taken)),
+    )
+
+returns-3 : tie.Need-returns-3
+returns-3 c =
+    let x = c .before .before in
+    let o = x .before .before .before .before .before in
+    let t = o .before .before .before .before in
+    let start = t .before .before .before .before .before .before .before in
+    λ b r st. (
+      t .trail-records .ensures .0 b r st .0,
+      trailed-stored _ _ b r _ _ st (omega (arith, start .good)) _ (t .trail-records .ensures .0 b r st .1)
           _ (o .resort .ensures .0) (o .resort .ensures .1) _ (x .resort2 .ensures .0) (x .resort2 .ensures .1),
     )
 
@@ -56,6 +67,8 @@ trail-spec =
     returns
     (λ c κs. search needs)
     resort-requires
+    (λ c. search needs)
+    returns-2
     resort-requires-2
     (λ c. search needs)
-    returns-2)
+    returns-3)
