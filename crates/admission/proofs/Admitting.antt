@@ -13,7 +13,7 @@ use Rattle.pricelevel.specs.declared.Seq.{Seq}
 use Rattle.stop_terms.specs.declared.StopTerms.{StopTerms}
 use Rattle.book.proofs.Operations.{admission-admissible}
 use Rattle.book.specs.Path.{closed}
-use Rattle.book.specs.Questions.{firstNo, decide}
+use Rattle.error.specs.Questions.{firstNo, decide}
 use Rattle.book.specs.Store.{PathOutcome, admissionQuestions, newEntry, admitted, pathAfterAdmission, admit}
 use Rattle.book.specs.Words.{bookOf}
 use Rattle.book.specs.declared.LastPrice.{LastPrice}

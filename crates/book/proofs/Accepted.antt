@@ -19,12 +19,13 @@ use Rattle.book.proofs.Lookup.{lookup-found}
 use Rattle.book.proofs.Operations.{admission-admissible, admitted-valid, admitted-fits, admitted-length, emptyBook-valid, emptyBook-fits, emptyBook-length, vacated-valid, vacated-fits, vacated-length}
 use Rattle.book.proofs.Questions.{firstNo-none, decide-outcomes}
 use Rattle.book.proofs.Refusals.{accepted-refused}
-use Rattle.book.proofs.Validity.{Valid, StopFits, Fits}
+use Rattle.book.specs.Valid.{Valid, StopFits, Fits}
 use Rattle.book.proofs.WellFormed.{Stored, stored-wellFormed, storedBook-wellFormed, wellFormed-valid, wellFormed-fits, bookOf-slots-length}
 use Rattle.book.specs.Book.{Book, Pending}
-use Rattle.book.specs.Questions.{question, firstNo, decide}
+use Rattle.error.specs.Questions.{question, firstNo, decide}
 use Rattle.book.specs.Store.{StoreOutcome, PathOutcome, storedBook, emptyBook, layOut, clear, lookup, newEntry, admitted, admit, vacated, cancelFound, cancel, cancels, changed, changeFound, updateFound, update}
-use Rattle.book.specs.Words.{mostRecords, storeLength, bookOf, wellFormed}
+use Rattle.book.specs.Words.{bookOf, wellFormed}
+use Rattle.book.specs.Sizes.{mostRecords, storeLength}
 use Rattle.book.specs.declared.LastPrice.{LastPrice}
 use Rattle.book.specs.declared.OrderUpdate.{OrderUpdate}
 use Rattle.book.specs.declared.PrintPath.{PrintPath}

@@ -1,7 +1,7 @@
 -- A run of prices that never falls, or never rises, is decided by its ends: a segment leaves the book that the walk over all its prices
 -- leaves, and takes out the same stops in the same order. Only the prices that elect them differ.
 use Prim.Native.Nat.{ℕ}
-use mathlib.Core.Path.{_≡_, refl, sym, _∙_}
+use mathlib.Core.Path.{_≡_, refl, sym, ap, _∙_}
 use mathlib.Core.Bool.{Bool, true, false}
 use mathlib.Core.List.{List, [], _∷_, _++_, map, map-append, map-map, map-id}
 use native.Mathlib.Omega.{arith}
@@ -13,10 +13,10 @@ use Rattle.pricelevel.specs.declared.Side.{Side}
 use Rattle.pricelevel.specs.declared.Side.the-variants.{Buy, Sell}
 use Rattle.stop_terms.specs.Terms.{behind}
 use Rattle.stop_terms.proofs.Terms.{tests}
-use Rattle.book.proofs.Lists.{All}
+use Rattle.book.specs.Lists.{All}
 use Rattle.book.proofs.Points.{BookSettled, settled-trails, point-settled, electedBy-merged, book-merged, electedBy-again, book-again}
 use Rattle.book.proofs.Stops.{Trails}
-use Rattle.book.specs.Book.{Book}
+use Rattle.book.specs.Book.{Book, entries}
 use Rattle.book.specs.Evaluation.{fillAt, Evaluated, electedBy, point, sellsFirst, fallsTo, andThen, walkFrom, segment, lastOf, walk}
 use Rattle.book.specs.Runs.{Goes, Monotone}
 use Rattle.book.specs.declared.LastPrice.{LastPrice}
@@ -47,13 +47,14 @@ agree-andThen o {r} {r′} h = record { books = h .books; stops = rw (andThen-st
 ------------------------------------------------------------------------
 -- Points
 
-point-stops : (kill first : Bool) (p : Price) (b : Book) → map (λ f. f .stop) (point kill first p b .fills) ≡ electedBy kill first p b
-unfolding point fillAt
-point-stops kill first p b = map-map (λ f. f .stop) (fillAt p) (electedBy kill first p b) ∙ map-id (electedBy kill first p b)
+point-stops : (kill first : Bool) (p : Price) (b : Book) → map (λ f. f .stop) (point kill first p b .fills) ≡ entries (electedBy kill first p b)
+unfolding point fillAt entries
+point-stops kill first p b = map-map (λ f. f .stop) (fillAt p) (electedBy kill first p b)
 
 -- a point at the price at which the book is settled does nothing
 point-again : (kill first : Bool) (o : Price) (b : Book) → BookSettled kill o b
     → Agree (record { book = b; fills = []; moved = [] }) (point kill first o b)
+unfolding entries
 point-again kill first o b w = record {
   books = sym (book-again kill first o b w);
   stops = rw (point-stops kill first o b, electedBy-again kill first o b w);
@@ -62,14 +63,14 @@ point-again kill first o b w = record {
 -- along a run, from a settled book, two points are one
 pub points-merged : (kill f g h : Bool) (o p q : Price) (d : Side) (b : Book) → behind d (p .0) (o .0) ≡ false → behind d (q .0) (p .0) ≡ false
     → BookSettled kill o b → Agree (andThen (point kill f p b) (point kill g q (point kill f p b .book))) (point kill h q b)
-unfolding andThen
+unfolding andThen entries
 points-merged kill f g h o p q d b op pq w =
     let after = point kill f p b .book in
     record {
       books = book-merged kill f g h o p q d b op pq w;
       stops =
           andThen-stops (point kill f p b) (point kill g q after)
-          ∙ rw (point-stops kill f p b, point-stops kill g q after, point-stops kill h q b) (sym (electedBy-merged kill f g h o p q d b op pq w));
+          ∙ rw (point-stops kill f p b, point-stops kill g q after, point-stops kill h q b) (sym (ap entries (electedBy-merged kill f g h o p q d b op pq w) ∙ map-append (λ x. x .entry) (electedBy kill f p b) (electedBy kill g q after)));
     }
 
 ------------------------------------------------------------------------

@@ -4,10 +4,10 @@ use mathlib.Core.Bool.{Bool, true, false, cond}
 use mathlib.Core.List.{List, [], _∷_}
 use lib.Dec.{eqb}
 use lib.ListN.{length}
-use Rattle.book.proofs.Lists.{All, all-mapped}
+use Rattle.book.proofs.Lists.{all-mapped}
 use Rattle.book.proofs.Lookup.{InBook, chain-in-book}
 use Rattle.book.specs.Book.{Book, Chain, chain, indices}
-use Rattle.book.specs.Lists.{headOr0}
+use Rattle.book.specs.Lists.{headOr0, All}
 use Rattle.book.specs.Words.{nextIn, chainIndices}
 
 -- heads and links

@@ -8,15 +8,16 @@ use borrow.Author.Tests.{ltb-true, leb-true}
 use borrow.Table.Steps.{cases}
 use lib.ListN.{length, set, length-set}
 use Rattle.book.proofs.Differing.{SlotsDiffer, slotsDiffer-vacant, differs-parts, differs-of, allDiffer-others}
-use Rattle.book.proofs.Lists.{All, all-map-both, all-set, all-getD}
+use Rattle.book.proofs.Lists.{all-map-both, all-set, all-getD}
+use Rattle.book.specs.Lists.{All}
 use Rattle.book.proofs.Lookup.{InBook}
 use Rattle.book.proofs.Operations.{withSlot-valid, withSlot-fits}
 use Rattle.book.proofs.Questions.{firstNo-none}
 use Rattle.book.proofs.Rising.{vacantIndices-kept, pendingCount-set}
 use Rattle.book.proofs.Soundness.{Sound, sound-parts, sound-of, consistent-parts, consistent-of}
-use Rattle.book.proofs.Validity.{Valid, StopFits, SlotFits, Fits}
+use Rattle.book.specs.Valid.{Valid, StopFits, SlotFits, Fits}
 use Rattle.book.specs.Book.{Slot, vacant, held, Book, Pending, pendingCount}
-use Rattle.book.specs.Questions.{firstNo}
+use Rattle.error.specs.Questions.{firstNo}
 use Rattle.book.specs.Store.{withinWatermark, withTerms, changedTerms, changedQuantity, takesSequence, changeQuestions, changedEntry, changed}
 use Rattle.book.specs.Words.{soundStop}
 use Rattle.book.specs.declared.LastPrice.{LastPrice}
@@ -76,7 +77,7 @@ module _ (update : OrderUpdate) (p : Pending) (b : Book) where
   changedEntry-sound s c = record {
     sequence = cases (takesSequence update) (λ e. rw e (omega arith)) (λ e. rw e (s .sequence));
     quantity = c .some-quantity;
-    terms = consistent-of (changedEntry update (p .entry) b) (rw (changedTerms-keeps update (p .entry) .1) (consistent-parts (p .entry) (s .terms) .0)) (c .within);
+    terms = consistent-of (changedTerms update (p .entry)) (rw (changedTerms-keeps update (p .entry) .1) (consistent-parts (p .entry .terms) (s .terms) .0)) (c .within);
     on-tick = rw (changedTerms-keeps update (p .entry) .1) (s .on-tick);
   }
 

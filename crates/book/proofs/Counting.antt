@@ -11,24 +11,15 @@ use Rattle.pricelevel.specs.declared.Price.{Price}
 use Rattle.pricelevel.specs.declared.Side.{Side}
 use Rattle.pricelevel.specs.declared.Side.the-variants.{Buy, Sell}
 use Rattle.book.proofs.FreeChain.{pendingCount-vacant}
+use Rattle.book.proofs.Sorting.{sortBy-length}
 use Rattle.book.proofs.Freeing.{insertIndices-length, vacantIndices-settled, electedBy-indices}
-use Rattle.book.specs.Book.{Slot, vacant, held, Book, Chain, Pending, sideOf, stopOf, before, insert, sort, withIndex, gather, ofSide, pendingCount}
+use Rattle.book.specs.Book.{Slot, vacant, held, Book, Pending, sideOf, stopOf, withIndex, gather, ofSide, pendingCount}
 use Rattle.book.specs.Evaluation.{trailed, settled, electedBy, changedOn, mover, movedOn, movedBy, fillAt, point}
 use Rattle.book.specs.Words.{vacantIndices}
 use Rattle.book.specs.declared.StopEntry.{StopEntry}
 
 ------------------------------------------------------------------------
 -- Lengths
-
-pub length-insert : (c : Chain) (p : Pending) (ps : List Pending) → length (insert c p ps) ≡ suc (length ps)
-unfolding insert
-length-insert c p [] = refl
-length-insert c p (q ∷ ps) = cases (before c (p .entry) (q .entry)) (λ e. rw e) (λ e. rw (e, length-insert c p ps))
-
-pub length-sort : (c : Chain) (ps : List Pending) → length (sort c ps) ≡ length ps
-unfolding sort
-length-sort c [] = refl
-length-sort c (p ∷ ps) = length-insert c p (sort c ps) ∙ ap suc (length-sort c ps)
 
 -- a stop is of one side
 pub length-ofSide : (i : ℕ) (side : Side) (t : StopEntry) (ps qs : List Pending)
@@ -72,7 +63,7 @@ movers-count price i (held t ∷ ss) =
 
 pub point-moves : (kill sellsFirst : Bool) (price : Price) (b : Book) → length (point kill sellsFirst price b .moved) ≤ pendingCount (b .slots)
 unfolding point movedBy movedOn
-point-moves kill sellsFirst price b = simp (length-append, length-map, length-sort) (movers-count price 1 (b .slots))
+point-moves kill sellsFirst price b = simp (length-append, length-map, sortBy-length) (movers-count price 1 (b .slots))
 
 ------------------------------------------------------------------------
 -- The records

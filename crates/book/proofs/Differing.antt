@@ -11,11 +11,11 @@ use Rattle.pricelevel.proofs.Bools.{and-parts}
 use Rattle.pricelevel.proofs.Identity.{sameId-equal, sameId-refl}
 use Rattle.pricelevel.specs.Identity.{sameId}
 use Rattle.pricelevel.specs.declared.Id.{Id}
-use Rattle.book.proofs.Lists.{All, all-every, every-all, all-of, all-set, all-getD}
+use Rattle.book.proofs.Lists.{all-every, every-all, all-of, all-set, all-getD}
 use Rattle.book.proofs.Lookup.{Unnamed}
 use Rattle.book.proofs.Soundness.{sound-parts}
 use Rattle.book.specs.Book.{Slot, vacant, held, seqOf}
-use Rattle.book.specs.Lists.{every}
+use Rattle.book.specs.Lists.{every, All}
 use Rattle.book.specs.Words.{soundStop, differs, allDiffer}
 use Rattle.book.specs.declared.StopEntry.{StopEntry}
 

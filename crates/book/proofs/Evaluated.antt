@@ -6,15 +6,15 @@ use mathlib.Core.Bool.{Bool, true, false, cond, not, _||_}
 use mathlib.Core.List.{List}
 use native.Mathlib.Omega.{arith}
 use lib.Dec.{eqb}
-use lib.ListN.{getD, length}
+use lib.ListN.{getD}
 use Rattle.error.specs.Answer.{accepted}
 use Rattle.pricelevel.specs.declared.Price.{Price}
 use Rattle.book.proofs.Accepted.{Accepted, decide-accepted, book-stored}
 use Rattle.book.proofs.Evaluating.{Kept, PriceFits, PointsAt, segment-points, walk-points, points-valid, points-fits, points-kept, points-count, SegmentFits, segmentPrices-fits}
-use Rattle.book.proofs.Lists.{All}
+use Rattle.book.specs.Lists.{All}
 use Rattle.book.proofs.Passing.{pass-valid, pass-fits, pass-kept, pass-count}
 use Rattle.book.proofs.Questions.{firstNo-none}
-use Rattle.book.proofs.Validity.{Valid, Fits}
+use Rattle.book.specs.Valid.{Valid, Fits}
 use Rattle.book.proofs.WellFormed.{IsWord, Stored}
 use Rattle.book.specs.Book.{Book, pendingCount}
 use Rattle.book.specs.Calls.{Settings, countsOf, PassCounts, SegmentOutcome, pendingIn, segmentQuestions, segmentCall, WalkOutcome, walkQuestions, walkCall, pass, PassOutcome, passQuestions, passed, passCall, RunOutcome, runOver, runCall}
@@ -22,10 +22,8 @@ use Rattle.book.specs.Evaluation.{Evaluated, segment, walk}
 use Rattle.book.specs.Path.{lastOr, segmentOf}
 use Rattle.book.specs.Store.{storedBook}
 use Rattle.book.specs.Words.{bookOf, wellFormed}
-use Rattle.book.specs.declared.Elected.{Elected}
 use Rattle.book.specs.declared.LastPrice.{LastPrice}
 use Rattle.book.specs.declared.LastPrice.the-variants as last
-use Rattle.book.specs.declared.Moved.{Moved}
 use Rattle.book.specs.declared.PrintPath.{PrintPath}
 use Rattle.book.specs.declared.PrintSegment.{PrintSegment}
 
@@ -77,25 +75,25 @@ either-lost w false x y c d f g = g
 abbrev pub runBook : Settings → List ℕ → LastPrice → List ℕ → PrintPath → Book
 runBook s script trade w path = cond (eqb (pendingIn w) 0 || not (path .«open»)) (bookOf w) (pass s script (segmentOf path trade) (bookOf w) .book)
 
-module _ (s : Settings) (w : List ℕ) (elected : List Elected) where
-  pub segmentCall-lost : (prints : PrintSegment) (moved : List Moved) → SegmentFits prints → (a : Accepted (segmentCall s prints w elected moved .answer))
+module _ (s : Settings) (w : List ℕ) (elected : ℕ) where
+  pub segmentCall-lost : (prints : PrintSegment) (moved : ℕ) → SegmentFits prints → (a : Accepted (segmentCall s prints w elected moved .answer))
       → Lost (segment (s .kill) prints (bookOf w) .book) (a .0 .elected) w (segmentCall s prints w elected moved .words)
   unfolding segmentCall segmentQuestions
   segmentCall-lost prints moved fits =
       decide-accepted (λ (o : SegmentOutcome). o .answer) (λ o v. Lost (segment (s .kill) prints (bookOf w) .book) (v .elected) w (o .words)) _ _ _ (λ k. refl)
       (λ e. points-lost (s .kill) w (segment-points (s .kill) prints (bookOf w)) (segmentPrices-fits prints fits)
-      (firstNo-none (segmentQuestions w (length elected) (length moved)) e .0))
+      (firstNo-none (segmentQuestions w elected moved) e .0))
 
   pub walkCall-lost : (prev : LastPrice) (prices : List Price) → All PriceFits prices → (a : Accepted (walkCall s prev prices w elected .answer))
       → Lost (walk (s .kill) prev prices (bookOf w) .book) (a .0 .elected) w (walkCall s prev prices w elected .words)
   unfolding walkCall walkQuestions
   walkCall-lost prev prices fits =
       decide-accepted (λ (o : WalkOutcome). o .answer) (λ o v. Lost (walk (s .kill) prev prices (bookOf w) .book) (v .elected) w (o .words)) _ _ _ (λ k. refl)
-      (λ e. points-lost (s .kill) w (walk-points (s .kill) prev prices (bookOf w)) fits (firstNo-none (walkQuestions prices w (length elected)) e .0))
+      (λ e. points-lost (s .kill) w (walk-points (s .kill) prev prices (bookOf w)) fits (firstNo-none (walkQuestions prices w elected) e .0))
 
   module _ (script : List ℕ) (words : All IsWord script) where
-    passed-lost : (prints : PrintSegment) → SegmentFits prints → wellFormed w ≡ true → (a : Accepted (passed s script prints w elected .answer))
-        → Lost (pass s script prints (bookOf w) .book) (a .0 .elected) w (passed s script prints w elected .words)
+    passed-lost : (prints : PrintSegment) → SegmentFits prints → wellFormed w ≡ true → (a : Accepted (passed s script prints w .answer))
+        → Lost (pass s script prints (bookOf w) .book) (a .0 .elected) w (passed s script prints w .words)
     unfolding passed
     passed-lost prints fits formed =
         let b = bookOf w in
@@ -107,7 +105,7 @@ module _ (s : Settings) (w : List ℕ) (elected : List Elected) where
     unfolding passCall passQuestions
     passCall-lost prints fits =
         decide-accepted (λ (o : PassOutcome). o .answer) (λ o v. Lost (pass s script prints (bookOf w) .book) (v .elected) w (o .words)) _ _ _ (λ k. refl)
-        (λ e. passed-lost prints fits (firstNo-none (passQuestions script w (length elected)) e .0))
+        (λ e. passed-lost prints fits (firstNo-none (passQuestions script w elected) e .0))
 
     pub runCall-lost : (trade : LastPrice) (path : PrintPath) → PriceFits (path .first) → TradeFits trade
         → (a : Accepted (runCall s script trade w elected path .answer)) → Lost (runBook s script trade w path) (a .0 .elected) w (runCall s script trade w elected path .words)
@@ -115,6 +113,6 @@ module _ (s : Settings) (w : List ℕ) (elected : List Elected) where
     runCall-lost trade path h k =
         decide-accepted (λ (o : RunOutcome). o .answer) (λ o v. Lost (runBook s script trade w path) (v .elected) w (o .words)) _ _ _ (λ k. refl)
         (λ e.
-        let formed = firstNo-none (passQuestions script w (length elected)) e .0 in
+        let formed = firstNo-none (passQuestions script w elected) e .0 in
         either-lost w (eqb (pendingIn w) 0 || not (path .«open»)) _ _ _ _ (idle-lost w formed _ refl)
         (passed-lost (segmentOf path trade) (segmentOf-fits path trade h k) formed))

@@ -12,9 +12,10 @@ use lib.ListN.{length, length-append}
 use Rattle.pricelevel.specs.declared.Price.{Price}
 use Rattle.book.proofs.Counting.{point-count, point-moves, point-records}
 use Rattle.book.proofs.Freeing.{point-free-vacant}
-use Rattle.book.proofs.Lists.{All, all-mapped}
+use Rattle.book.proofs.Lists.{all-mapped}
+use Rattle.book.specs.Lists.{All}
 use Rattle.book.proofs.Settling.{settled-sound, settled-allDiffer, settled-fits}
-use Rattle.book.proofs.Validity.{Valid, SlotFits, Fits}
+use Rattle.book.specs.Valid.{Valid, SlotFits, Fits}
 use Rattle.book.specs.Book.{Book, pendingCount}
 use Rattle.book.specs.Evaluation.{settled, Evaluated, point, sellsFirst, fallsTo, andThen, walkFrom, segment, lastOf, walk}
 use Rattle.book.specs.Words.{soundStop}

@@ -1,9 +1,9 @@
 -- Document 01's examples about stores and runs, in one table that the checker computes.
-use Prim.Native.Nat.{ℕ, _-_}
+use Prim.Native.Nat.{ℕ}
 use mathlib.Core.Path.{_≡_, refl}
 use mathlib.Core.Bool.{false}
 use mathlib.Core.List.{List, [], _∷_, _++_, map}
-use lib.ListN.{length, replicate}
+use lib.ListN.{replicate}
 use Rattle.error.specs.Answer.{Answer, refused, accepted}
 use Rattle.pricelevel.specs.Identity.{kindNumber, sameId}
 use Rattle.pricelevel.specs.Side.{sideNumber}
@@ -14,18 +14,17 @@ use Rattle.pricelevel.specs.declared.Price.{Price}
 use Rattle.pricelevel.specs.declared.Seq.{Seq}
 use Rattle.pricelevel.specs.declared.Side.{Side}
 use Rattle.pricelevel.specs.declared.Side.the-variants.{Buy, Sell}
-use Rattle.stop_protection.specs.declared.Limit.the-variants as limit
 use Rattle.stop_protection.specs.declared.Protection.the-variants as protection
-use Rattle.stop_terms.specs.Terms.{behind, candidate, tightened, ratcheted, trailedAt, elects, electedAt, inconsistencyOf}
+use Rattle.stop_terms.specs.Terms.{behind, candidate, tightened, ratcheted, trailedAt, elects, electedAt, beyond, inconsistencyOf, inconsistencyNumber}
 use Rattle.stop_terms.specs.declared.StopTerms.{StopTerms}
-use Rattle.book.specs.Book.{chainSide, before, lexicographic, withIndex, gather, insert, sort, ofSide, pendingOn, chain, indices, pendingCount}
-use Rattle.book.specs.Calls.{Settings, Counts, SegmentOutcome, WalkOutcome, electedEntry, electedEntries, written, countsOf, pendingIn, segmentQuestions, segmentCall, walkQuestions, walkCall}
+use Rattle.book.specs.Book.{chainSide, before, lexicographic, withIndex, gather, ofSide, pendingOn, chain, indices, pendingCount}
+use Rattle.book.specs.Calls.{Settings, Counts, SegmentOutcome, WalkOutcome, electedEntry, electedEntries, countsOf, pendingIn, segmentQuestions, segmentCall, walkQuestions, walkCall}
 use Rattle.book.specs.Evaluation.{trailed, leaves, vacatedIf, settled, leavingOn, leaver, electedOn, electedBy, freed, changedOn, mover, movedEntry, movedOn, movedBy, fillAt, point, sellsFirst, fallsTo, andThen, walkFrom, segment, lastOf, walk}
-use Rattle.book.specs.Lists.{headOr0, rising, every, sameList}
+use Rattle.book.specs.Lists.{headOr0, isNone, isSome, rising, every, sameList, insertBy, sortBy}
 use Rattle.book.specs.Path.{closed}
-use Rattle.book.specs.Questions.{firstNo, decide}
-use Rattle.book.specs.Store.{PathOutcome, stored, storedBook, emptyBook, layOut, named, lookup, isSome, isPending, withinWatermark, notTriggered, admissionQuestions, admitted, newEntry, pathAfterAdmission, admit}
-use Rattle.book.specs.Words.{nextIn, chainIndices, header, recordWords, recordsWords, layout, cell, recordWord, kindOf, sideFrom, entryAt, slotAt, slotsAt, freeFrom, bookOf, consistent, soundStop, differs, allDiffer, vacantIndices, insertRising, sortRising, valid, areWords, wellFormed}
+use Rattle.error.specs.Questions.{firstNo, decide}
+use Rattle.book.specs.Store.{PathOutcome, stored, storedBook, emptyBook, layOut, named, lookup, isPending, withinWatermark, notTriggered, admissionQuestions, admitted, newEntry, pathAfterAdmission, admit}
+use Rattle.book.specs.Words.{nextIn, chainIndices, header, recordWords, recordsWords, layout, cell, recordWord, kindOf, sideFrom, entryAt, slotAt, slotsAt, freeFrom, bookOf, consistent, soundStop, differs, allDiffer, vacantIndices, valid, areWords, wellFormed, dataWords, afterByStop, afterByWatermark, withLinks}
 use Rattle.book.specs.declared.Elected.{Elected}
 use Rattle.book.specs.declared.LastPrice.{LastPrice}
 use Rattle.book.specs.declared.LastPrice.the-variants as last
@@ -48,23 +47,6 @@ terms side stop watermark trail = record { side = side; stop = price stop; water
 plain : Settings
 plain = record { kill = false; protection = protection.None; namespace = record { high = 0; low = 0 } }
 
--- entries of lent lists before a call
-blank : Elected
-blank = record {
-  id = sequential 0;
-  side = Buy;
-  stop = price 0;
-  quantity = record { 0 = 0 };
-  seq = record { 0 = 0 };
-  trigger = price 0;
-  limit = limit.None;
-  child = sequential 0;
-  pending = false;
-}
-
-unmoved : Moved
-unmoved = record { id = sequential 0; stop = price 0 }
-
 closedPath : PrintPath
 closedPath = record { «open» = false; «has_prev» = false; prev = price 0; first = price 0 }
 
@@ -72,11 +54,10 @@ admitInto : List ℕ → LastPrice → ℕ → StopTerms → PathOutcome Seq
 admitInto w trade id t = admit false trade (sequential id) t (record { 0 = 1 }) w closedPath
 
 segmentOver : List ℕ → LastPrice → ℕ → ℕ → SegmentOutcome
-segmentOver w prev first last =
-    segmentCall plain (record { prev = prev; first = price first; last = price last }) w (replicate 4 blank) (replicate 8 unmoved)
+segmentOver w prev first last = segmentCall plain (record { prev = prev; first = price first; last = price last }) w 4 8
 
 walkOver : List ℕ → List ℕ → WalkOutcome
-walkOver w l = walkCall plain last.None (map price l) w (replicate 4 blank)
+walkOver w l = walkCall plain last.None (map price l) w 4
 
 ------------------------------------------------------------------------
 -- Answers as numbers: refused is 0 and the number; accepted 1 and the values
@@ -146,16 +127,6 @@ tiesStore =
 ------------------------------------------------------------------------
 -- The table
 
-blankLine : List ℕ
-blankLine = 2 ∷ 0 ∷ 0 ∷ 0 ∷ 0 ∷ 0 ∷ 0 ∷ 0 ∷ []
-
--- what is written, and the entries that stay
-lentElected : List (List ℕ) → List (List ℕ)
-lentElected l = l ++ replicate (4 - length l) blankLine
-
-lentMoved : List (List ℕ) → List (List ℕ)
-lentMoved l = l ++ replicate (8 - length l) (0 ∷ 0 ∷ [])
-
 -- both records are free, the one that left last at the head
 forecastLeft : List ℕ
 forecastLeft = 2 ∷ 0 ∷ 2 ∷ 0 ∷ 0 ∷ 0 ∷ 0 ∷ 0 ∷ 2 ∷ (replicate 20 0 ++ (1 ∷ 0 ∷ []))
@@ -183,21 +154,21 @@ table =
     ∷ example (admissionLines (admitInto forecastStore (last.At (price 90)) 9 (terms Sell 90 100 10))) ((0 ∷ 7 ∷ []) ∷ forecastStore ∷ [])
     ∷ example (admissionLines (admitInto forecastStore last.None 9 (terms Sell 90 100 10))) ((0 ∷ 8 ∷ []) ∷ forecastStore ∷ [])
     ∷ example (walkLines (walkOver forecastStore (100 ∷ 97 ∷ 94 ∷ [])))
-    ((1 ∷ 0 ∷ 2 ∷ []) ∷ forecastLeft ∷ lentElected ((2 ∷ 0 ∷ 7 ∷ 1 ∷ 98 ∷ 1 ∷ 0 ∷ 97 ∷ []) ∷ (2 ∷ 0 ∷ 9 ∷ 1 ∷ 95 ∷ 1 ∷ 1 ∷ 94 ∷ []) ∷ []))
+    ((1 ∷ 0 ∷ 2 ∷ []) ∷ forecastLeft ∷ (2 ∷ 0 ∷ 7 ∷ 1 ∷ 98 ∷ 1 ∷ 0 ∷ 97 ∷ []) ∷ (2 ∷ 0 ∷ 9 ∷ 1 ∷ 95 ∷ 1 ∷ 1 ∷ 94 ∷ []) ∷ [])
     ∷ example (segmentLines (segmentOver forecastStore last.None 100 94))
     ((1 ∷ 0 ∷ 2 ∷ []) ∷ forecastLeft
-    ∷ (lentElected ((2 ∷ 0 ∷ 7 ∷ 1 ∷ 98 ∷ 1 ∷ 0 ∷ 94 ∷ []) ∷ (2 ∷ 0 ∷ 9 ∷ 1 ∷ 95 ∷ 1 ∷ 1 ∷ 94 ∷ []) ∷ []) ++ lentMoved []))
+    ∷ (2 ∷ 0 ∷ 7 ∷ 1 ∷ 98 ∷ 1 ∷ 0 ∷ 94 ∷ []) ∷ (2 ∷ 0 ∷ 9 ∷ 1 ∷ 95 ∷ 1 ∷ 1 ∷ 94 ∷ []) ∷ [])
     ∷ example (walkLines (walkOver turningStore (100 ∷ 110 ∷ 100 ∷ [])))
-    ((1 ∷ 1 ∷ 1 ∷ []) ∷ (1 ∷ 0 ∷ 1 ∷ 0 ∷ 0 ∷ 0 ∷ 0 ∷ 0 ∷ 1 ∷ replicate 11 0) ∷ lentElected ((2 ∷ 0 ∷ 7 ∷ 1 ∷ 105 ∷ 1 ∷ 0 ∷ 100 ∷ []) ∷ []))
+    ((1 ∷ 1 ∷ 1 ∷ []) ∷ (1 ∷ 0 ∷ 1 ∷ 0 ∷ 0 ∷ 0 ∷ 0 ∷ 0 ∷ 1 ∷ replicate 11 0) ∷ (2 ∷ 0 ∷ 7 ∷ 1 ∷ 105 ∷ 1 ∷ 0 ∷ 100 ∷ []) ∷ [])
     ∷ example (segmentLines (segmentOver turningStore last.None 100 100))
-    ((1 ∷ 0 ∷ 0 ∷ []) ∷ turningStore ∷ (lentElected [] ++ lentMoved []))
-    ∷ example (map line (segmentOver bothStore last.None 100 101 .elected)) (lentElected (buyLine ∷ sellLine ∷ []))
-    ∷ example (map line (segmentOver bothStore last.None 100 100 .elected)) (lentElected (sellLine ∷ buyLine ∷ []))
-    ∷ example (map line (segmentOver bothStore (last.At (price 101)) 100 101 .elected)) (lentElected (sellLine ∷ buyLine ∷ []))
-    ∷ example (map line (segmentOver bothStore (last.At (price 100)) 100 101 .elected)) (lentElected (buyLine ∷ sellLine ∷ []))
+    ((1 ∷ 0 ∷ 0 ∷ []) ∷ turningStore ∷ [])
+    ∷ example (map line (segmentOver bothStore last.None 100 101 .elected)) (buyLine ∷ sellLine ∷ [])
+    ∷ example (map line (segmentOver bothStore last.None 100 100 .elected)) (sellLine ∷ buyLine ∷ [])
+    ∷ example (map line (segmentOver bothStore (last.At (price 101)) 100 101 .elected)) (sellLine ∷ buyLine ∷ [])
+    ∷ example (map line (segmentOver bothStore (last.At (price 100)) 100 101 .elected)) (buyLine ∷ sellLine ∷ [])
     ∷ example (map line (walkOver tiesStore (90 ∷ []) .elected))
-    (lentElected ((2 ∷ 0 ∷ 1 ∷ 1 ∷ 90 ∷ 1 ∷ 0 ∷ 90 ∷ []) ∷ (2 ∷ 0 ∷ 2 ∷ 1 ∷ 90 ∷ 1 ∷ 1 ∷ 90 ∷ []) ∷ []))
-    ∷ example (map movedLine (segmentOver tiesStore last.None 95 95 .moved)) (lentMoved ((4 ∷ 105 ∷ []) ∷ (3 ∷ 105 ∷ []) ∷ []))
+    ((2 ∷ 0 ∷ 1 ∷ 1 ∷ 90 ∷ 1 ∷ 0 ∷ 90 ∷ []) ∷ (2 ∷ 0 ∷ 2 ∷ 1 ∷ 90 ∷ 1 ∷ 1 ∷ 90 ∷ []) ∷ [])
+    ∷ example (map movedLine (segmentOver tiesStore last.None 95 95 .moved)) ((4 ∷ 105 ∷ []) ∷ (3 ∷ 105 ∷ []) ∷ [])
     ∷ []
 
 found : List (List (List ℕ))
@@ -207,5 +178,5 @@ expected : List (List (List ℕ))
 expected = map (λ e. e .expected) table
 
 examples : found ≡ expected
-unfolding price sequential terms plain blank unmoved closedPath admitInto segmentOver walkOver toldSeq toldCounts line movedLine segmentLines walkLines admissionLines laidOut forecastStore turningStore bothStore tiesStore blankLine lentElected lentMoved forecastLeft sellLine buyLine example table found expected chainSide before lexicographic withIndex gather insert sort ofSide pendingOn chain indices pendingCount headOr0 rising every sameList nextIn chainIndices header recordWords recordsWords layout cell recordWord kindOf sideFrom entryAt slotAt slotsAt freeFrom bookOf consistent soundStop differs allDiffer vacantIndices insertRising sortRising valid areWords wellFormed sameId onTick behind inconsistencyOf candidate tightened ratcheted trailedAt elects electedAt electedEntry electedEntries written countsOf pendingIn segmentQuestions segmentCall walkQuestions walkCall trailed leaves vacatedIf settled leavingOn leaver electedOn electedBy freed changedOn mover movedEntry movedOn movedBy fillAt point sellsFirst fallsTo andThen walkFrom segment lastOf walk firstNo decide stored storedBook emptyBook layOut named lookup isSome isPending withinWatermark notTriggered admissionQuestions admitted newEntry pathAfterAdmission admit closed
+unfolding price sequential terms plain closedPath admitInto segmentOver walkOver toldSeq toldCounts line movedLine segmentLines walkLines admissionLines laidOut forecastStore turningStore bothStore tiesStore forecastLeft sellLine buyLine example table found expected before lexicographic withIndex gather insertBy sortBy ofSide pendingOn chain indices pendingCount headOr0 isNone rising every sameList nextIn chainIndices header recordWords dataWords afterByStop afterByWatermark withLinks recordsWords layout cell recordWord kindOf sideFrom entryAt slotAt slotsAt freeFrom bookOf consistent soundStop differs allDiffer vacantIndices valid areWords wellFormed sameId onTick behind beyond inconsistencyOf inconsistencyNumber candidate tightened ratcheted trailedAt elects electedAt electedEntry electedEntries countsOf pendingIn segmentQuestions segmentCall walkQuestions walkCall trailed leaves vacatedIf settled leavingOn leaver electedOn electedBy freed changedOn mover movedEntry movedOn movedBy fillAt point sellsFirst fallsTo andThen walkFrom segment lastOf walk firstNo decide stored storedBook emptyBook layOut named lookup isSome isPending withinWatermark notTriggered admissionQuestions admitted newEntry pathAfterAdmission admit closed
 examples = refl

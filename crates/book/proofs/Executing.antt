@@ -10,9 +10,11 @@ use lib.Dec.{leb, eqb}
 use lib.ListN.{length, getD, drop, length-append, length-drop}
 use Rattle.pricelevel.proofs.Bools.{and-parts}
 use Rattle.book.proofs.Evaluating.{SegmentFits}
-use Rattle.book.proofs.Lists.{All, all-append, all-getD, all-drop}
+use Rattle.book.proofs.Lists.{all-append, all-getD, all-drop}
+use Rattle.book.specs.Lists.{All}
 use Rattle.book.proofs.WellFormed.{IsWord}
-use Rattle.book.specs.Script.{scriptEntryLength, scriptFormed, scriptSegment, executeOne, executed}
+use Rattle.book.specs.Script.{scriptFormed, scriptSegment, executeOne, executed}
+use Rattle.book.specs.Sizes.{scriptEntryLength}
 use Rattle.book.specs.declared.Elected.{Elected}
 
 module _ (script : List ℕ) (e : Elected) where

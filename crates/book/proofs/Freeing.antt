@@ -12,18 +12,19 @@ use lib.ListN.{length}
 use Rattle.pricelevel.specs.declared.Price.{Price}
 use Rattle.pricelevel.specs.declared.Side.{Side}
 use Rattle.pricelevel.specs.declared.Side.the-variants.{Buy, Sell}
-use Rattle.book.proofs.FreeChain.{insertRising-length}
+use Rattle.book.proofs.Sorting.{insert, insertRising, insertBy-length}
 use Rattle.book.proofs.Rising.{vacantIndices-first}
-use Rattle.book.specs.Book.{Slot, vacant, held, Book, Chain, Pending, sideOf, before, insert, sort, withIndex, gather, ofSide}
+use Rattle.book.specs.Book.{Slot, vacant, held, Book, Chain, Pending, sideOf, before, sort, withIndex, gather, ofSide}
 use Rattle.book.specs.Evaluation.{trailed, leaves, vacatedIf, settled, leavingOn, leaver, electedOn, electedBy, freed}
-use Rattle.book.specs.Words.{vacantIndices, insertRising, sortRising}
+use Rattle.book.specs.Words.{vacantIndices, sortRising}
 use Rattle.book.specs.declared.StopEntry.{StopEntry}
+use Rattle.book.specs.Lists.{sortBy, insertBy}
 
 ------------------------------------------------------------------------
 -- Indices put in rising order
 
 insertRising-swap : (i j : ℕ) (l : List ℕ) → i < j → insertRising i (insertRising j l) ≡ insertRising j (insertRising i l)
-unfolding insertRising
+unfolding insertBy
 insertRising-swap i j [] h = rw (lt-ltb i j h, le-ltb j i (omega arith))
 insertRising-swap i j (k ∷ l) h = cases (ltb j k)
     (λ e. rw (e, lt-ltb i k (omega (arith, ltb-true j k e)), lt-ltb i j h, le-ltb j i (omega arith), e))
@@ -47,7 +48,7 @@ insertIndices-insertRising i (p ∷ ps) l = rw (insertIndices-insertRising i ps 
 pub insertIndices-length : (ps : List Pending) (l : List ℕ) → length (insertIndices ps l) ≡ length ps + length l
 unfolding insertIndices
 insertIndices-length [] l = omega arith
-insertIndices-length (p ∷ ps) l = omega (arith, insertRising-length (p .index) (insertIndices ps l), insertIndices-length ps l)
+insertIndices-length (p ∷ ps) l = omega (arith, insertBy-length ltb (p .index) (insertIndices ps l), insertIndices-length ps l)
 
 pub insertIndices-comm : (ps qs : List Pending) (l : List ℕ) → insertIndices ps (insertIndices qs l) ≡ insertIndices qs (insertIndices ps l)
 unfolding insertIndices
@@ -61,18 +62,18 @@ insertIndices-append (p ∷ ps) qs l = rw (insertIndices-append ps qs l)
 
 -- the order of a chain does not matter
 pub insertIndices-insert : (c : Chain) (p : Pending) (ps : List Pending) (l : List ℕ) → insertIndices (insert c p ps) l ≡ insertIndices (p ∷ ps) l
-unfolding insertIndices insert
+unfolding insertIndices insertBy
 insertIndices-insert c p [] l = refl
 insertIndices-insert c p (q ∷ ps) l = cases (before c (p .entry) (q .entry)) (λ e. rw e)
     (λ e. rw (e, insertIndices-insert c p ps l) (insertRising-comm (q .index) (p .index) (insertIndices ps l)))
 
 pub insertIndices-sort : (c : Chain) (ps : List Pending) (l : List ℕ) → insertIndices (sort c ps) l ≡ insertIndices ps l
-unfolding sort insertIndices
+unfolding sortBy insertIndices
 insertIndices-sort c [] l = refl
 insertIndices-sort c (p ∷ ps) l = insertIndices-insert c p (sort c ps) l ∙ ap (insertRising (p .index)) (insertIndices-sort c ps l)
 
 pub sortRising-freed : (ps : List Pending) (free : List ℕ) → sortRising (freed ps free) ≡ insertIndices ps (sortRising free)
-unfolding freed sortRising insertIndices
+unfolding freed sortBy insertIndices
 sortRising-freed [] free = refl
 sortRising-freed (p ∷ ps) free = sortRising-freed ps (p .index ∷ free) ∙ insertIndices-insertRising (p .index) ps (sortRising free)
 

@@ -1,6 +1,8 @@
 pub mod Accepted
 pub mod Agreement
+pub mod Answers
 pub mod ChainIndices
+pub mod Chains
 pub mod Changing
 pub mod Counting
 pub mod Differing
@@ -11,8 +13,10 @@ pub mod Examples
 pub mod Executing
 pub mod FreeChain
 pub mod Freeing
+pub mod LaidOut
 pub mod Lists
 pub mod Lookup
+pub mod Members
 pub mod Operations
 pub mod Parting
 pub mod Passing
@@ -23,8 +27,10 @@ pub mod Reading
 pub mod Refusals
 pub mod Rising
 pub mod Settling
+pub mod Slots
+pub mod Sorting
 pub mod Soundness
-pub mod Steps
 pub mod Stops
+pub mod Tests
 pub mod Validity
 pub mod WellFormed

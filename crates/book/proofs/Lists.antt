@@ -1,21 +1,16 @@
 -- Laws of lists: what holds of every element, tests on every element, and equality of lists of numbers.
 use Prim.Native.Nat.{ℕ, zero, suc, _+_, _<_}
-use mathlib.Core.Path.{_≡_, refl, ap₂}
+use mathlib.Core.Path.{_≡_, refl, ap₂, _∙_}
 use mathlib.Core.Bool.{Bool, true, false, false≢true}
 use mathlib.Core.List.{List, [], _∷_, _++_, map}
 use native.Mathlib.Nat.{add-zero, add-suc, suc-add}
 use native.Mathlib.Omega.{arith}
 use lib.Dec.{eqb}
 use lib.ListN.{length, getD, set, drop, replicate}
-use lib.Seq.{sets}
+use lib.Seq.{sets, getD-set-other}
 use borrow.Author.Tests.{eqb-true, eq-eqb}
 use Rattle.pricelevel.proofs.Bools.{and-parts}
-use Rattle.book.specs.Lists.{every, sameList}
-
--- what holds of every element
-abbrev pub All : {A : Type 0} → (A → Type 0) → List A → Type 0
-All P [] = Unit {0}
-All P (x ∷ l) = P x × All P l
+use Rattle.book.specs.Lists.{All, every, sameList}
 
 pub all-map : {A : Type 0} {P Q : A → Type 0} (f : (x : A) → P x → Q x) (l : List A) → All P l → All Q l
 all-map f [] h = tt
@@ -99,3 +94,8 @@ map-agree f g (x ∷ l) h = rw (h .0, map-agree f g l (h .1))
 pub sets-append : {A : Type 0} (xs ys l : List A) (i : ℕ) → sets (sets l i xs) (i + length xs) ys ≡ sets l i (xs ++ ys)
 sets-append [] ys l i = rw add-zero
 sets-append (x ∷ xs) ys l i = rw (add-suc, ← suc-add) (sets-append xs ys (set l i x) (suc i))
+
+pub getD-sets-before : {A : Type 0} (xs l : List A) (i j : ℕ) (d : A) → i < j → getD (sets l j xs) i d ≡ getD l i d
+getD-sets-before [] l i j d h = refl
+getD-sets-before (x ∷ xs) l i j d h =
+    getD-sets-before xs (set l j x) i (suc j) d (omega arith) ∙ getD-set-other l j i x d (λ e. omega arith)

@@ -12,39 +12,12 @@ use Rattle.pricelevel.specs.Identity.{sameId}
 use Rattle.pricelevel.specs.declared.Id.{Id}
 use Rattle.pricelevel.specs.declared.Side.{Side}
 use Rattle.pricelevel.specs.declared.Side.the-variants.{Buy, Sell}
-use Rattle.book.proofs.Lists.{All, all-map, all-append, all-append-parts, getD-all}
-use Rattle.book.specs.Book.{Slot, vacant, held, Book, Chain, ByStop, chainSide, before, Pending, sideOf, withIndex, gather, insert, sort, ofSide, pendingOn, chain}
-use Rattle.book.specs.Store.{named, lookup, isSome, isPending}
+use Rattle.book.proofs.Sorting.{sortBy-all, sortBy-parts}
+use Rattle.book.proofs.Lists.{all-map, all-append, all-append-parts, getD-all}
+use Rattle.book.specs.Book.{Slot, vacant, held, Book, Chain, ByStop, chainSide, Pending, sideOf, withIndex, gather, sort, ofSide, pendingOn, chain, earlierIn}
+use Rattle.book.specs.Store.{named, lookup, isPending}
 use Rattle.book.specs.declared.StopEntry.{StopEntry}
-
-------------------------------------------------------------------------
--- What holds of every pending stop holds along a chain, and the other way round
-
-module _ (P : Pending → Type 0) (c : Chain) where
-  pub insert-all : (x : Pending) (l : List Pending) → P x → All P l → All P (insert c x l)
-  unfolding insert
-  insert-all x [] p h = (p, h)
-  insert-all x (y ∷ l) p h = cases (before c (x .entry) (y .entry)) (λ e. rw e (p, h)) (λ e. rw e (h .0, insert-all x l p (h .1)))
-
-  pub sort-all : (l : List Pending) → All P l → All P (sort c l)
-  unfolding sort
-  sort-all [] h = h
-  sort-all (x ∷ l) h = insert-all x (sort c l) (h .0) (sort-all l (h .1))
-
-  pub insert-all-parts : (x : Pending) (l : List Pending) → All P (insert c x l) → P x × All P l
-  unfolding insert
-  insert-all-parts x [] h = h
-  insert-all-parts x (y ∷ l) h = cases (before c (x .entry) (y .entry))
-      (λ e. rw e at h)
-      (λ e.
-      let g : P y × All P (insert c x l) = rw e at h in
-      let r = insert-all-parts x l (g .1) in
-      (r .0, (g .0, r .1)))
-
-  pub sort-all-parts : (l : List Pending) → All P (sort c l) → All P l
-  unfolding sort
-  sort-all-parts [] h = h
-  sort-all-parts (x ∷ l) h = let r = insert-all-parts x (sort c l) h in (r .0, sort-all-parts l (r .1))
+use Rattle.book.specs.Lists.{All, isSome}
 
 ------------------------------------------------------------------------
 -- What is gathered comes from the records
@@ -116,7 +89,7 @@ pub record InBook (ss : List Slot) (p : Pending) : Type 0 where
 pub chain-in-book : (c : Chain) (ss : List Slot) → All (InBook ss) (chain c ss)
 unfolding chain
 chain-in-book c ss =
-    sort-all (InBook ss) c (gather (pendingOn (chainSide c)) 1 ss)
+    sortBy-all (earlierIn c) (InBook ss) (gather (pendingOn (chainSide c)) 1 ss)
     (all-map in-book (gather (pendingOn (chainSide c)) 1 ss) (gather-gathered (pendingOn (chainSide c)) 1 ss))
   where
     in-book : (p : Pending) → Gathered (pendingOn (chainSide c)) 1 ss p → InBook ss p
@@ -130,7 +103,7 @@ pub chain-all : (P : Pending → Type 0) (c : Chain) (ss : List Slot) → All P 
     → (k : ℕ) (t : StopEntry) → k < length ss → getD ss k vacant ≡ held t → chainSide c ≡ sideOf t → P (record { index = 1 + k; entry = t })
 unfolding chain
 chain-all P c ss h k t l e q =
-    gather-all (pendingOn (chainSide c)) P 1 ss (sort-all-parts P c (gather (pendingOn (chainSide c)) 1 ss) h) k t l (rw e (held-pendingOn (chainSide c) t q))
+    gather-all (pendingOn (chainSide c)) P 1 ss (sortBy-parts (earlierIn c) P (gather (pendingOn (chainSide c)) 1 ss) h) k t l (rw e (held-pendingOn (chainSide c) t q))
 
 ------------------------------------------------------------------------
 -- The search
@@ -162,7 +135,7 @@ Unnamed id vacant = Unit {0}
 Unnamed id (held t) = sameId id (t .id) ≡ false
 
 pub lookup-none : (id : Id) (b : Book) → lookup id b ≡ none → All (Unnamed id) (b .slots)
-unfolding lookup chainSide
+unfolding lookup
 lookup-none id b e = getD-all (Unnamed id) (b .slots) vacant (λ k h. go k h (getD (b .slots) k vacant) refl)
   where
     Other : Pending → Type 0

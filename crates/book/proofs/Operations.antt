@@ -13,17 +13,18 @@ use Rattle.pricelevel.specs.declared.Quantity.{Quantity}
 use Rattle.stop_terms.specs.declared.StopTerms.{StopTerms}
 use Rattle.book.proofs.Differing.{SlotsDiffer, slotsDiffer-vacant, allDiffer-set, new-slotsDiffer}
 use Rattle.book.proofs.FreeChain.{pendingCount-vacant}
-use Rattle.book.proofs.Lists.{All, all-map, all-of, all-map-both, all-set, all-replicate}
+use Rattle.book.proofs.Lists.{all-map, all-of, all-map-both, all-set, all-replicate}
 use Rattle.book.proofs.Lookup.{InBook, lookup-none, isPending-none}
 use Rattle.book.proofs.Questions.{firstNo-none}
 use Rattle.book.proofs.Rising.{Taken, vacantIndices-rising, vacantIndices-empty, vacantIndices-vacated, vacantIndices-taken, pendingCount-set}
 use Rattle.book.proofs.Soundness.{sound-of, sound-later, consistent-of}
-use Rattle.book.proofs.Validity.{Valid, StopFits, SlotFits, Fits}
+use Rattle.book.specs.Valid.{Admissible, Valid, StopFits, SlotFits, Fits}
 use Rattle.book.specs.Book.{Slot, vacant, held, Book, Pending, seqOf, pendingCount}
-use Rattle.book.specs.Lists.{headOr0}
-use Rattle.book.specs.Questions.{firstNo}
+use Rattle.book.specs.Lists.{headOr0, sortBy, All}
+use Rattle.error.specs.Questions.{firstNo}
 use Rattle.book.specs.Store.{emptyBook, lookup, admissionQuestions, admitted, newEntry, vacated}
-use Rattle.book.specs.Words.{mostRecords, consistent, soundStop, allDiffer, vacantIndices, sortRising, bookOf, wellFormed}
+use Rattle.book.specs.Words.{consistent, soundStop, allDiffer, vacantIndices, sortRising, bookOf, wellFormed}
+use Rattle.book.specs.Sizes.{mostRecords}
 use Rattle.book.specs.declared.LastPrice.{LastPrice}
 use Rattle.book.specs.declared.StopEntry.{StopEntry}
 
@@ -76,19 +77,10 @@ emptyBook-length n tick = length-replicate n vacant
 ------------------------------------------------------------------------
 -- Admission
 
--- what the questions of an admission leave of the stop that is admitted
-pub record Admissible (t : StopEntry) (b : Book) : Type 0 where
-  pub next-sequence : seqOf t ≡ b .next
-  pub some-quantity : 1 ≤ t .quantity .0
-  pub terms : consistent t ≡ true
-  pub on-tick : onTick (b .tick) (t .terms .trail) ≡ true
-  pub absent : lookup (t .id) b ≡ none
-  pub room : pendingCount (b .slots) < length (b .slots)
-
 -- the head of the free chain is the index of a vacant record, and the others are those of the vacant records after it is taken
 pub free-taken : (t : StopEntry) (b : Book) → Valid b → pendingCount (b .slots) < length (b .slots)
     → Taken (headOr0 (b .free)) 1 (sortRising (drop 1 (b .free))) (b .slots) t
-unfolding headOr0 sortRising
+unfolding headOr0 sortBy
 free-taken t b v room = go (b .free) (v .free-vacant)
   where
     go : (l : List ℕ) → sortRising l ≡ vacantIndices 1 (b .slots) → Taken (headOr0 l) 1 (sortRising (drop 1 l)) (b .slots) t
@@ -137,7 +129,7 @@ admission-admissible kill trade id terms quantity w e =
       record {
         next-sequence = refl;
         some-quantity = leb-true _ _ (q .1 .1 .0);
-        terms = consistent-of (newEntry id terms quantity (bookOf w)) (leb-true _ _ (q .1 .1 .1 .0)) (q .1 .1 .1 .1 .0);
+        terms = consistent-of terms (leb-true _ _ (q .1 .1 .1 .0)) (q .1 .1 .1 .1 .0);
         on-tick = store .1 .0;
         absent = isPending-none id (bookOf w) (not-true _ (store .0));
         room = omega (arith, ltb-true, store .1 .1 .0);
@@ -149,7 +141,7 @@ admission-admissible kill trade id terms quantity w e =
 -- Cancel
 
 pub vacated-valid : (p : Pending) (b : Book) → Valid b → InBook (b .slots) p → Valid (vacated (p .index) b)
-unfolding vacated soundStop sortRising
+unfolding vacated soundStop sortBy
 vacated-valid p b v h =
     let e : 1 + (p .index - 1) ≡ p .index = omega (arith, h .from) in
     withSlot-valid b (b .next) (p .index - 1) vacant (p .index ∷ b .free) v (omega arith) refl (all-of (λ s. tt) (set (b .slots) (p .index - 1) vacant))

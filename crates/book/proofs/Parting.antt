@@ -14,10 +14,10 @@ use Rattle.pricelevel.specs.declared.Side.{Side}
 use Rattle.pricelevel.specs.declared.Side.the-variants.{Buy, Sell}
 use Rattle.stop_terms.specs.Terms.{behind}
 use Rattle.stop_terms.proofs.Terms.{tests, behind-past, behind-asym}
-use Rattle.book.proofs.Lists.{All}
-use Rattle.book.proofs.Lookup.{insert-all}
-use Rattle.book.specs.Book.{Slot, Chain, ByStop, stopOf, seqOf, lexicographic, before, Pending, withIndex, gather, insert, sort, ofSide}
+use Rattle.book.proofs.Sorting.{insert, insertBy-all}
+use Rattle.book.specs.Book.{Slot, Chain, ByStop, stopOf, seqOf, lexicographic, before, Pending, withIndex, gather, sort, ofSide, earlierIn}
 use Rattle.book.specs.declared.StopEntry.{StopEntry}
+use Rattle.book.specs.Lists.{All, sortBy, insertBy}
 
 -- what a record gives up at first, what it gives up then, and what it gives up at once
 pub data Part (Early Late : StopEntry → Type 0) : Option StopEntry → Option StopEntry → Option StopEntry → Type 0 where
@@ -40,25 +40,25 @@ pub record Parted (Early Late : StopEntry → Type 0) (a b whole : List Pending)
 
 module _ (c : Chain) (Early Late : StopEntry → Type 0) (w : Apart c Early Late) where
   insert-front : (x : Pending) (a b : List Pending) → Early (x .entry) → AllStops Late b → insert c x (a ++ b) ≡ insert c x a ++ b
-  unfolding insert
+  unfolding insertBy
   insert-front x [] [] h k = refl
   insert-front x [] (y ∷ b) h k = rw (w .first (x .entry) (y .entry) h (k .0))
   insert-front x (y ∷ a) b h k = cases (before c (x .entry) (y .entry)) (λ e. rw e) (λ e. rw (e, insert-front x a b h k))
 
   insert-back : (x : Pending) (a b : List Pending) → Late (x .entry) → AllStops Early a → insert c x (a ++ b) ≡ a ++ insert c x b
-  unfolding insert
+  unfolding insertBy
   insert-back x [] b h k = refl
   insert-back x (y ∷ a) b h k = rw (w .second (y .entry) (x .entry) (k .0) h, insert-back x a b h (k .1))
 
   parted-withIndex : {f g r : Option StopEntry} (i : ℕ) (a b l : List Pending) → Part Early Late f g r
       → Parted Early Late (sort c a) (sort c b) (sort c l)
       → Parted Early Late (sort c (withIndex i f a)) (sort c (withIndex i g b)) (sort c (withIndex i r l))
-  unfolding sort withIndex
+  unfolding sortBy withIndex
   parted-withIndex i a b l (early x h) v =
       let p : Pending = record { index = i; entry = x } in
       record {
         joined = rw (v .joined) (insert-front p (sort c a) (sort c b) h (v .back));
-        front = insert-all (λ q. Early (q .entry)) c p (sort c a) h (v .front);
+        front = insertBy-all (earlierIn c) (λ q. Early (q .entry)) p (sort c a) h (v .front);
         back = v .back;
       }
   parted-withIndex i a b l (late x h) v =
@@ -66,14 +66,14 @@ module _ (c : Chain) (Early Late : StopEntry → Type 0) (w : Apart c Early Late
       record {
         joined = rw (v .joined) (insert-back p (sort c a) (sort c b) h (v .front));
         front = v .front;
-        back = insert-all (λ q. Late (q .entry)) c p (sort c b) h (v .back);
+        back = insertBy-all (earlierIn c) (λ q. Late (q .entry)) p (sort c b) h (v .back);
       }
   parted-withIndex i a b l never v = v
 
   pub parted : (f g r : Slot → Option StopEntry) (after : Slot → Slot) (i : ℕ) (ss : List Slot)
       → All (λ s. Part Early Late (f s) (g (after s)) (r s)) ss
       → Parted Early Late (sort c (gather f i ss)) (sort c (gather g i (map after ss))) (sort c (gather r i ss))
-  unfolding sort gather
+  unfolding sortBy gather
   parted f g r after i [] k = record { joined = refl; front = tt; back = tt }
   parted f g r after i (s ∷ ss) k =
       parted-withIndex i (gather f (suc i) ss) (gather g (suc i) (map after ss)) (gather r (suc i) ss) (k .0)

@@ -7,43 +7,23 @@ use native.Mathlib.Omega.{arith}
 use lib.ListN.{length, drop, length-append, length-map}
 use Rattle.book.proofs.Evaluating.{Kept, kept-trans, segment-points, points-valid, points-fits, points-kept, points-count, SegmentFits, segmentPrices-fits, segment-moves}
 use Rattle.book.proofs.Executing.{executed-segments, executed-fits, executed-used, script-left}
-use Rattle.book.proofs.Lists.{All, all-append, all-drop}
-use Rattle.book.proofs.Validity.{Valid, Fits}
+use Rattle.book.proofs.Lists.{all-append, all-drop}
+use Rattle.book.specs.Lists.{All}
+use Rattle.book.specs.Valid.{Valid, Fits}
 use Rattle.book.proofs.WellFormed.{IsWord}
 use Rattle.book.specs.Book.{Book, pendingCount}
-use Rattle.book.specs.Calls.{Settings, electedEntry, electedEntries, Passed, passFrom, pass}
+use Rattle.book.specs.Calls.{Settings, electedEntry, electedEntries, Passed, evaluatedIn, executedIn, scriptAfter, ended, withSegment, passFrom, pass}
 use Rattle.book.specs.Evaluation.{Evaluated, segment}
-use Rattle.book.specs.Script.{scriptEntryLength, Executed, executed}
+use Rattle.book.specs.Script.{Executed, executed}
+use Rattle.book.specs.Sizes.{scriptEntryLength}
 use Rattle.book.specs.declared.PrintSegment.{PrintSegment}
 
 ------------------------------------------------------------------------
 -- The pass, one segment after the other
 
--- a segment of a pass: what it does, what its elected execute, and the script after that
-abbrev pub evaluatedIn : Settings → PrintSegment → Book → Evaluated
-evaluatedIn s prints b = segment (s .kill) prints b
-
-abbrev pub executedIn : Settings → List ℕ → PrintSegment → Book → Executed
-executedIn s script prints b = executed script (electedEntries s (evaluatedIn s prints b))
-
-abbrev pub scriptAfter : Settings → List ℕ → PrintSegment → Book → List ℕ
-scriptAfter s script prints b = drop (scriptEntryLength * (executedIn s script prints b .used)) script
-
 abbrev pub passedAfter : ℕ → Settings → List ℕ → PrintSegment → List PrintSegment → Book → Passed
 passedAfter k s script prints queue b =
     passFrom k s (scriptAfter s script prints b) (queue ++ executedIn s script prints b .segments) (evaluatedIn s prints b .book)
-
--- a pass that takes no segment, and one with a segment before it
-abbrev pub ended : Book → Passed
-ended b = record { book = b; entries = []; moves = 0; used = 0 }
-
-abbrev pub withSegment : Settings → List ℕ → PrintSegment → Book → Passed → Passed
-withSegment s script prints b rest = record {
-  book = rest .book;
-  entries = electedEntries s (evaluatedIn s prints b) ++ rest .entries;
-  moves = length (evaluatedIn s prints b .moved) + rest .moves;
-  used = executedIn s script prints b .used + rest .used;
-}
 
 zero-or-more : {X : Type 0} (n : ℕ) → (n ≡ 0 → X) → ((m : ℕ) → n ≡ suc m → X) → X
 zero-or-more zero f g = f refl
@@ -82,7 +62,7 @@ module _ (s : Settings) where
       (λ e. rw (passFrom-empty (suc k) script (prints ∷ queue) b e) (stop (suc k) script (prints ∷ queue) b))
       (λ n e. rw (passFrom-step k n script prints queue b e) (step k script prints queue b _ ih))
 
-  entries-length : (prints : PrintSegment) (b : Book) → length (electedEntries s (evaluatedIn s prints b)) ≡ length (evaluatedIn s prints b .fills)
+  pub entries-length : (prints : PrintSegment) (b : Book) → length (electedEntries s (evaluatedIn s prints b)) ≡ length (evaluatedIn s prints b .fills)
   unfolding electedEntries
   entries-length prints b = length-map (evaluatedIn s prints b .fills) (electedEntry s (evaluatedIn s prints b .book))
 

@@ -12,12 +12,13 @@ use Rattle.pricelevel.specs.declared.Side.{Side}
 use Rattle.pricelevel.specs.declared.Side.the-variants.{Buy, Sell}
 use Rattle.stop_terms.specs.Terms.{behind}
 use Rattle.stop_terms.proofs.Terms.{behind-irrefl, past-trans}
-use Rattle.book.proofs.Lists.{All, all-map, all-mapped, map-agree}
+use Rattle.book.proofs.Lists.{all-map, all-mapped, map-agree}
 use Rattle.book.proofs.Parting.{Part, never, parted, Met, Unmet, stops-apart, part-early, part-late}
 use Rattle.book.proofs.Stops.{Trails, trailed-still, trailed-keeps, trailed-again, leaves-not-behind, waits-behind, leaves-further, Settled, trailed-settled, trailed-stays}
 use Rattle.book.specs.Book.{Slot, vacant, held, Book, ByStop, sideOf, watermarkOf, Pending, withIndex, gather, sort, ofSide}
 use Rattle.book.specs.Evaluation.{trailed, leaves, vacatedIf, settled, leavingOn, leaver, electedOn, electedBy, freed, point}
 use Rattle.book.specs.declared.StopEntry.{StopEntry}
+use Rattle.book.specs.Lists.{sortBy, All}
 
 ------------------------------------------------------------------------
 -- A record at two prices
@@ -137,7 +138,7 @@ point-trails kill first p b h = settled-trails kill p (point kill first p b .boo
 
 electedOn-none : (kill : Bool) (o q : Price) (d : Side) (b : Book) → behind d (q .0) (o .0) ≡ false → BookSettled kill o b
     → electedOn kill q d b ≡ []
-unfolding electedOn sort
+unfolding electedOn sortBy
 electedOn-none kill o q d b h w = rw (gather-none (leaver kill q d) 1 (b .slots) (all-map (leaver-none kill o q d h) (b .slots) w))
 
 unfoldable opposite : Side → Side

@@ -6,8 +6,8 @@ use mathlib.Core.Bool.{true}
 use mathlib.Core.List.{List, [], _∷_}
 use mathlib.Core.Option.{Option, none, some}
 use borrow.Table.Steps.{cases}
-use Rattle.book.proofs.Lists.{All}
-use Rattle.book.specs.Questions.{Question, firstNo, decide}
+use Rattle.book.specs.Lists.{All}
+use Rattle.error.specs.Questions.{Question, firstNo, decide}
 
 pub firstNo-of : (qs : List Question) → All (λ q. q .holds ≡ true) qs → firstNo qs ≡ none
 unfolding firstNo

@@ -13,14 +13,16 @@ use Rattle.pricelevel.specs.declared.IdKind.{IdKind}
 use Rattle.pricelevel.specs.declared.IdKind.the-variants.{Uuid, Ulid, Sequential}
 use Rattle.pricelevel.specs.declared.Side.{Side}
 use Rattle.pricelevel.specs.declared.Side.the-variants.{Buy, Sell}
-use Rattle.book.proofs.FreeChain.{Distinct, VacantFrom, free-all-vacant, free-distinct, free-count}
-use Rattle.book.proofs.Lists.{All, all-map, all-map-both, all-getD}
+use Rattle.book.proofs.FreeChain.{VacantFrom, free-all-vacant, free-distinct, free-count}
+use Rattle.book.proofs.Sorting.{Distinct}
+use Rattle.book.proofs.Lists.{all-map, all-map-both, all-getD}
 use Rattle.book.proofs.Places.{layout-header, layout-record}
 use Rattle.book.proofs.Soundness.{sound-parts}
-use Rattle.book.proofs.Validity.{Valid}
+use Rattle.book.specs.Valid.{Valid}
 use Rattle.book.specs.Book.{Slot, vacant, held, Book}
-use Rattle.book.specs.Lists.{headOr0}
-use Rattle.book.specs.Words.{headerLength, recordLength, nextIn, header, recordWords, layout, recordWord, kindOf, sideFrom, entryAt, slotAt, slotsAt, freeFrom, bookOf, soundStop}
+use Rattle.book.specs.Lists.{headOr0, All}
+use Rattle.book.specs.Words.{nextIn, header, recordWords, layout, recordWord, kindOf, sideFrom, entryAt, slotAt, slotsAt, freeFrom, bookOf, soundStop, dataWords, afterByStop, afterByWatermark, withLinks}
+use Rattle.book.specs.Sizes.{headerLength, recordLength, nextByStop}
 
 ------------------------------------------------------------------------
 -- Numbers of kinds and sides
@@ -42,7 +44,7 @@ sideFrom-number Sell = refl
 -- the words of a slot read as that slot
 slotAt-words : (w : List ℕ) (b : Book) (i : ℕ) (s : Slot) → soundStop (b .next) (b .tick) s ≡ true
     → ((k : ℕ) → k < recordLength → recordWord w i k ≡ getD (recordWords b i s) k 0) → slotAt w i ≡ s
-unfolding slotAt entryAt recordWords
+unfolding slotAt entryAt recordWords dataWords afterByStop afterByWatermark withLinks
 slotAt-words w b i vacant h words = rw (words 7 (omega arith))
 slotAt-words w b i (held t) h words =
     let q : recordWord w i 7 ≡ t .quantity .0 = words 7 (omega arith) in
@@ -88,16 +90,16 @@ unfolding nextIn
 nextIn-there i j l n = rw (ne-eqb j i (λ e. n (sym e)))
 
 -- a chain without repeats is read along the links in word 9 of its records
-freeFrom-chain : (w : List ℕ) (k : ℕ) (l : List ℕ) → length l ≤ k → Distinct l → All (λ i. (1 ≤ i) × (recordWord w i 9 ≡ nextIn l i)) l
+freeFrom-chain : (w : List ℕ) (k : ℕ) (l : List ℕ) → length l ≤ k → Distinct l → All (λ i. (1 ≤ i) × (recordWord w i nextByStop ≡ nextIn l i)) l
     → freeFrom w k (headOr0 l) ≡ l
 unfolding freeFrom headOr0
 freeFrom-chain w zero [] h d links = refl
 freeFrom-chain w zero (i ∷ l) h d links = absurd (omega arith)
 freeFrom-chain w (suc k) [] h d links = refl
 freeFrom-chain w (suc k) (i ∷ l) h d links =
-    let next : recordWord w i 9 ≡ headOr0 l = links .0 .1 ∙ nextIn-here i l in
+    let next : recordWord w i nextByStop ≡ headOr0 l = links .0 .1 ∙ nextIn-here i l in
     let rest =
-    all-map-both {P = λ j. i ≢ j} {Q = λ j. (1 ≤ j) × (recordWord w j 9 ≡ nextIn (i ∷ l) j)} {R = λ j. (1 ≤ j) × (recordWord w j 9 ≡ nextIn l j)}
+    all-map-both {P = λ j. i ≢ j} {Q = λ j. (1 ≤ j) × (recordWord w j nextByStop ≡ nextIn (i ∷ l) j)} {R = λ j. (1 ≤ j) × (recordWord w j nextByStop ≡ nextIn l j)}
     (λ j n e. (e .0, e .1 ∙ nextIn-there i j l n)) l (d .0) (links .1) in
     rw (ne-eqb i 0 (omega arith), next, freeFrom-chain w k l (omega arith) (d .1) rest)
 
@@ -113,8 +115,8 @@ module _ (b : Book) (r : List ℕ) (v : Valid b) where
       (all-getD (λ s. soundStop (b .next) (b .tick) s ≡ true) (b .slots) m vacant refl (v .sound))
       (λ k h. rw e at (layout-record b r (1 + m) k (omega arith) (omega arith) h))
 
-  free-link : (i : ℕ) → VacantFrom 1 (b .slots) i → (1 ≤ i) × (recordWord (layout b ++ r) i 9 ≡ nextIn (b .free) i)
-  unfolding recordWords
+  free-link : (i : ℕ) → VacantFrom 1 (b .slots) i → (1 ≤ i) × (recordWord (layout b ++ r) i nextByStop ≡ nextIn (b .free) i)
+  unfolding recordWords dataWords afterByStop afterByWatermark withLinks
   free-link i h = (h .low, rw (h .is-vacant) at (layout-record b r i 9 (h .low) (omega arith) (omega arith)))
 
   header-word : (k : ℕ) → k < headerLength → getD (layout b ++ r) k 0 ≡ getD (header b) k 0
@@ -127,7 +129,7 @@ module _ (b : Book) (r : List ℕ) (v : Valid b) where
   freeFrom-layout : freeFrom (layout b ++ r) (getD (layout b ++ r) 0 0) (getD (layout b ++ r) 8 0) ≡ b .free
   unfolding header
   freeFrom-layout =
-      let links = all-map {Q = λ i. (1 ≤ i) × (recordWord (layout b ++ r) i 9 ≡ nextIn (b .free) i)} free-link (b .free) (free-all-vacant b v) in
+      let links = all-map {Q = λ i. (1 ≤ i) × (recordWord (layout b ++ r) i nextByStop ≡ nextIn (b .free) i)} free-link (b .free) (free-all-vacant b v) in
       rw (header-word 0 (omega arith), header-word 8 (omega arith))
       (freeFrom-chain (layout b ++ r) (length (b .slots)) (b .free) (omega (arith, free-count b v)) (free-distinct b v) links)
 

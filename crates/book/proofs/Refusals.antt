@@ -1,8 +1,8 @@
--- A refused call alters nothing lent.
+-- A refused call alters nothing lent and lists nothing.
 use Prim.Native.Nat.{ℕ}
 use mathlib.Core.Path.{_≡_, refl}
 use mathlib.Core.Bool.{Bool, not, _||_}
-use mathlib.Core.List.{List}
+use mathlib.Core.List.{List, []}
 use mathlib.Core.Option.{Option, none, some}
 use native.Mathlib.Omega.{arith}
 use borrow.Table.Steps.{cases}
@@ -15,13 +15,11 @@ use Rattle.pricelevel.specs.declared.Seq.{Seq}
 use Rattle.stop_terms.specs.declared.StopTerms.{StopTerms}
 use Rattle.book.proofs.Questions.{decide-outcomes}
 use Rattle.book.specs.Book.{Pending}
-use Rattle.book.specs.Calls.{Settings, SegmentOutcome, WalkOutcome, PassOutcome, RunOutcome, pendingIn, segmentCall, walkCall, passed, passCall, runOver, runCall}
-use Rattle.book.specs.Questions.{decide}
+use Rattle.book.specs.Calls.{Settings, SegmentOutcome, ListOutcome, WalkOutcome, PassOutcome, RunOutcome, pendingIn, segmentCall, walkCall, passed, passCall, runOver, runCall}
+use Rattle.error.specs.Questions.{decide}
 use Rattle.book.specs.Store.{StoreOutcome, PathOutcome, layOut, clear, admit, cancelFound, cancel, cancels, changeFound, updateFound, update, lookup}
 use Rattle.book.specs.Words.{bookOf}
-use Rattle.book.specs.declared.Elected.{Elected}
 use Rattle.book.specs.declared.LastPrice.{LastPrice}
-use Rattle.book.specs.declared.Moved.{Moved}
 use Rattle.book.specs.declared.OrderUpdate.{OrderUpdate}
 use Rattle.book.specs.declared.PrintPath.{PrintPath}
 use Rattle.book.specs.declared.PrintSegment.{PrintSegment}
@@ -83,31 +81,31 @@ unfolding update
 update-refused change id trade w r =
     decide-refused (λ (o : StoreOutcome StopEntry). o .answer) (λ o. o .words ≡ w) _ _ _ r (λ k. refl) (updateFound-refused change trade (lookup id (bookOf w)) w)
 
-module _ (s : Settings) (w : List ℕ) (elected : List Elected) where
-  pub segmentCall-refused : (prints : PrintSegment) (moved : List Moved) → Refused (segmentCall s prints w elected moved .answer)
-      → (segmentCall s prints w elected moved .words ≡ w) × (segmentCall s prints w elected moved .elected ≡ elected) × (segmentCall s prints w elected moved .moved ≡ moved)
+module _ (s : Settings) (w : List ℕ) (elected : ℕ) where
+  pub segmentCall-refused : (prints : PrintSegment) (moved : ℕ) → Refused (segmentCall s prints w elected moved .answer)
+      → (segmentCall s prints w elected moved .words ≡ w) × (segmentCall s prints w elected moved .elected ≡ []) × (segmentCall s prints w elected moved .moved ≡ [])
   unfolding segmentCall
   segmentCall-refused prints moved r =
-      decide-refused (λ (o : SegmentOutcome). o .answer) (λ o. (o .words ≡ w) × (o .elected ≡ elected) × (o .moved ≡ moved)) _ _ _ r
+      decide-refused (λ (o : SegmentOutcome). o .answer) (λ o. (o .words ≡ w) × (o .elected ≡ []) × (o .moved ≡ [])) _ _ _ r
       (λ k. (refl, refl, refl)) (λ q. absurd (accepted-refused _ q))
 
-  pub walkCall-refused : (prev : LastPrice) (prices : List Price) → Refused (walkCall s prev prices w elected .answer)
-      → (walkCall s prev prices w elected .words ≡ w) × (walkCall s prev prices w elected .elected ≡ elected)
+  -- what a walk and a pass leave and list where they are refused
+  abbrev ListLeft : {A : Type 0} → ListOutcome A → Type 0
+  ListLeft o = (o .words ≡ w) × (o .elected ≡ [])
+
+  pub walkCall-refused : (prev : LastPrice) (prices : List Price) → Refused (walkCall s prev prices w elected .answer) → ListLeft (walkCall s prev prices w elected)
   unfolding walkCall
   walkCall-refused prev prices r =
-      decide-refused (λ (o : WalkOutcome). o .answer) (λ o. (o .words ≡ w) × (o .elected ≡ elected)) _ _ _ r
-      (λ k. (refl, refl)) (λ q. absurd (accepted-refused _ q))
+      decide-refused (λ (o : WalkOutcome). o .answer) (λ o. ListLeft o) _ _ _ r (λ k. (refl, refl)) (λ q. absurd (accepted-refused _ q))
 
-  pub passCall-refused : (script : List ℕ) (prints : PrintSegment) → Refused (passCall s script prints w elected .answer)
-      → (passCall s script prints w elected .words ≡ w) × (passCall s script prints w elected .elected ≡ elected)
+  pub passCall-refused : (script : List ℕ) (prints : PrintSegment) → Refused (passCall s script prints w elected .answer) → ListLeft (passCall s script prints w elected)
   unfolding passCall passed
   passCall-refused script prints r =
-      decide-refused (λ (o : PassOutcome). o .answer) (λ o. (o .words ≡ w) × (o .elected ≡ elected)) _ _ _ r
-      (λ k. (refl, refl)) (λ q. absurd (accepted-refused _ q))
+      decide-refused (λ (o : PassOutcome). o .answer) (λ o. ListLeft o) _ _ _ r (λ k. (refl, refl)) (λ q. absurd (accepted-refused _ q))
 
   -- what the run over path and store leaves where it is refused, and where nothing is pending or the path is closed
   abbrev RunLeft : PrintPath → RunOutcome → Type 0
-  RunLeft path o = (o .words ≡ w) × (o .elected ≡ elected) × (o .path ≡ path)
+  RunLeft path o = (o .words ≡ w) × (o .elected ≡ []) × (o .path ≡ path)
 
   pub runCall-refused : (script : List ℕ) (trade : LastPrice) (path : PrintPath) → Refused (runCall s script trade w elected path .answer)
       → RunLeft path (runCall s script trade w elected path)

@@ -8,17 +8,17 @@ use borrow.Author.Tests.{lt-ltb, le-ltb}
 use borrow.Table.Steps.{cases}
 use lib.Dec.{ltb}
 use lib.ListN.{length, getD, set, replicate}
-use Rattle.book.proofs.FreeChain.{insertRising-length}
+use Rattle.book.proofs.Sorting.{insertRising, insertBy-length}
 use Rattle.book.specs.Book.{Slot, vacant, held, pendingCount}
-use Rattle.book.specs.Lists.{rising}
-use Rattle.book.specs.Words.{vacantIndices, insertRising, sortRising}
+use Rattle.book.specs.Lists.{rising, sortBy, insertBy}
+use Rattle.book.specs.Words.{vacantIndices, sortRising}
 use Rattle.book.specs.declared.StopEntry.{StopEntry}
 
 ------------------------------------------------------------------------
 -- Insertion
 
 pub insertRising-later : (i j : ℕ) (l : List ℕ) → j ≤ i → insertRising i (j ∷ l) ≡ j ∷ insertRising i l
-unfolding insertRising
+unfolding insertBy
 insertRising-later i j l h = rw (le-ltb i j h)
 
 ------------------------------------------------------------------------
@@ -26,7 +26,7 @@ insertRising-later i j l h = rw (le-ltb i j h)
 
 -- an index below theirs comes first
 vacantIndices-below : (i j : ℕ) (ss : List Slot) → i < j → insertRising i (vacantIndices j ss) ≡ i ∷ vacantIndices j ss
-unfolding insertRising vacantIndices
+unfolding insertBy vacantIndices
 vacantIndices-below i j [] h = refl
 vacantIndices-below i j (vacant ∷ ss) h = rw (lt-ltb i j h)
 vacantIndices-below i j (held t ∷ ss) h = vacantIndices-below i (suc j) ss (omega arith)
@@ -35,7 +35,7 @@ pub vacantIndices-first : (j : ℕ) (ss : List Slot) → insertRising j (vacantI
 vacantIndices-first j ss = vacantIndices-below j (suc j) ss (omega arith)
 
 pub vacantIndices-rising : (j : ℕ) (ss : List Slot) → sortRising (vacantIndices j ss) ≡ vacantIndices j ss
-unfolding vacantIndices sortRising
+unfolding vacantIndices sortBy
 vacantIndices-rising j [] = refl
 vacantIndices-rising j (vacant ∷ ss) = rw (vacantIndices-rising (suc j) ss) (vacantIndices-first j ss)
 vacantIndices-rising j (held t ∷ ss) = vacantIndices-rising (suc j) ss
@@ -90,8 +90,8 @@ unfolding vacantIndices
 taken-here x j l ss t e = record { place = 0; is = let q : x ≡ j = cc in omega arith; inside = omega arith; vacant-there = refl; others = cc }
 
 pub vacantIndices-taken : (x j : ℕ) (l : List ℕ) (ss : List Slot) (t : StopEntry) → insertRising x l ≡ vacantIndices j ss → Taken x j l ss t
-unfolding vacantIndices insertRising
-vacantIndices-taken x j l [] t e = absurd (omega (arith, insertRising-length x l, ap length e))
+unfolding vacantIndices insertBy
+vacantIndices-taken x j l [] t e = absurd (omega (arith, insertBy-length ltb x l, ap length e))
 vacantIndices-taken x j [] (vacant ∷ ss) t e = taken-here x j [] ss t e
 vacantIndices-taken x j (y ∷ l) (vacant ∷ ss) t e = cases (ltb x y)
     (λ f. taken-here x j (y ∷ l) ss t (rw f at e))

@@ -16,7 +16,7 @@ use Rattle.stop_terms.specs.Terms.{behind, candidate, tightened, ratcheted, tra
 use Rattle.book.proofs.Lists.{every-all, all-every, all-mapped}
 use Rattle.book.proofs.Soundness.{consistent-parts, consistent-of, sound-parts, sound-of}
 use Rattle.book.proofs.Stops.{trailed-keeps}
-use Rattle.book.proofs.Validity.{StopFits, SlotFits}
+use Rattle.book.specs.Valid.{StopFits, SlotFits}
 use Rattle.book.specs.Book.{Slot, vacant, held}
 use Rattle.book.specs.Evaluation.{trailed, leaves, vacatedIf, settled}
 use Rattle.book.specs.Lists.{every}
@@ -34,18 +34,18 @@ settled-keeps P kill price (held t) h k = cases (leaves kill price (trailed pric
 ------------------------------------------------------------------------
 -- Soundness
 
-pub trailed-consistent : (price : Price) (t : StopEntry) → consistent t ≡ true → consistent (trailed price t) ≡ true
+pub trailed-consistent : (price : Price) (t : StopEntry) → consistent (t .terms) ≡ true → consistent (trailed price t .terms) ≡ true
 unfolding trailed trailedAt ratcheted withinWatermark
 trailed-consistent price t e =
-    let h = consistent-parts t e in
+    let h = consistent-parts (t .terms) e in
     let s : Side = t .terms .side in
     cases (behind s (t .terms .watermark .0) (price .0))
-    (λ f. consistent-of (trailed price t) (rw f (h .0)) (rw (
+    (λ f. consistent-of (trailed price t .terms) (rw f (h .0)) (rw (
       f,
       behind-asym s _ (price .0)
           (tightened-behind s (t .terms .trail) (price .0) (t .terms .stop .0) (h .0) (behind-under s _ _ _ (not-true _ (h .1)) f)),
     )))
-    (λ f. consistent-of (trailed price t) (rw f (h .0)) (rw f (h .1)))
+    (λ f. consistent-of (trailed price t .terms) (rw f (h .0)) (rw f (h .1)))
 
 pub trailed-sound : (next tick : ℕ) (price : Price) (t : StopEntry) → soundStop next tick (held t) ≡ true → soundStop next tick (held (trailed price t)) ≡ true
 unfolding trailed

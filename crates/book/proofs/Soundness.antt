@@ -8,30 +8,33 @@ use borrow.Table.Steps.{cases}
 use lib.Dec.{ltb, leb, eqb}
 use Rattle.pricelevel.proofs.Bools.{and-parts}
 use Rattle.pricelevel.specs.Tick.{onTick}
-use Rattle.stop_terms.specs.Terms.{behind, inconsistencyOf}
+use Rattle.stop_terms.proofs.Terms.{inconsistency-number}
+use Rattle.stop_terms.specs.Terms.{behind}
+use Rattle.stop_terms.specs.declared.StopTerms.{StopTerms}
 use Rattle.book.specs.Book.{Slot, vacant, held, sideOf, stopOf, watermarkOf, seqOf}
+use Rattle.book.specs.Lists.{isNone}
 use Rattle.book.specs.Store.{withinWatermark}
 use Rattle.book.specs.Words.{consistent, soundStop}
 use Rattle.book.specs.declared.StopEntry.{StopEntry}
 
 -- no inconsistency: a trail of at least 1, and the stop not past the watermark
-consistent-tests : (t : StopEntry) → consistent t ≡ (not (eqb (t .terms .trail) 0) && withinWatermark (t .terms))
-unfolding consistent inconsistencyOf withinWatermark
-consistent-tests t = cases (eqb (t .terms .trail) 0) (λ e. rw (e, consistent))
-    (λ e. cases (behind (sideOf t) (watermarkOf t) (stopOf t)) (λ f. rw (e, f, consistent)) (λ f. rw (e, f, consistent)))
+consistent-tests : (t : StopTerms) → consistent t ≡ (not (eqb (t .trail) 0) && withinWatermark t)
+unfolding consistent isNone withinWatermark
+consistent-tests t = rw (inconsistency-number t) (cases (eqb (t .trail) 0) (λ e. rw e)
+    (λ e. cases (behind (t .side) (t .watermark .0) (t .stop .0)) (λ f. rw (e, f)) (λ f. rw (e, f))))
 
-pub consistent-parts : (t : StopEntry) → consistent t ≡ true → (1 ≤ t .terms .trail) × (withinWatermark (t .terms) ≡ true)
+pub consistent-parts : (t : StopTerms) → consistent t ≡ true → (1 ≤ t .trail) × (withinWatermark t ≡ true)
 consistent-parts t e =
-    let h = and-parts (not (eqb (t .terms .trail) 0)) _ (rw consistent-tests at e) in
-    (omega (arith, eqb-false (t .terms .trail) 0 (not-true (eqb (t .terms .trail) 0) (h .0))), h .1)
+    let h = and-parts (not (eqb (t .trail) 0)) _ (rw consistent-tests at e) in
+    (omega (arith, eqb-false (t .trail) 0 (not-true (eqb (t .trail) 0) (h .0))), h .1)
 
-pub consistent-of : (t : StopEntry) → 1 ≤ t .terms .trail → withinWatermark (t .terms) ≡ true → consistent t ≡ true
-consistent-of t h k = rw (consistent-tests t, ne-eqb (t .terms .trail) 0 (λ e. omega arith), k)
+pub consistent-of : (t : StopTerms) → 1 ≤ t .trail → withinWatermark t ≡ true → consistent t ≡ true
+consistent-of t h k = rw (consistent-tests t, ne-eqb (t .trail) 0 (λ e. omega arith), k)
 
 pub record Sound (next tick : ℕ) (t : StopEntry) : Type 0 where
   pub sequence : seqOf t < next
   pub quantity : 1 ≤ t .quantity .0
-  pub terms : consistent t ≡ true
+  pub terms : consistent (t .terms) ≡ true
   pub on-tick : onTick tick (t .terms .trail) ≡ true
 
 pub sound-parts : (next tick : ℕ) (t : StopEntry) → soundStop next tick (held t) ≡ true → Sound next tick t
@@ -39,7 +42,7 @@ unfolding soundStop
 sound-parts next tick t e =
     let s = and-parts (ltb (seqOf t) next) _ e in
     let q = and-parts (leb 1 (t .quantity .0)) _ (s .1) in
-    let c = and-parts (consistent t) _ (q .1) in
+    let c = and-parts (consistent (t .terms)) _ (q .1) in
     record { sequence = ltb-true _ _ (s .0); quantity = leb-true _ _ (q .0); terms = c .0; on-tick = c .1 }
 
 pub sound-of : (next tick : ℕ) (t : StopEntry) → Sound next tick t → soundStop next tick (held t) ≡ true

@@ -9,7 +9,8 @@ use Rattle.pricelevel.specs.declared.Price.{Price}
 use Rattle.stop_terms.specs.Terms.{behind, ratcheted, trailedAt, electedAt}
 use Rattle.stop_terms.specs.declared.StopTerms.{StopTerms}
 use Rattle.stop_terms.proofs.Terms.{behind-past, behind-irrefl, past-trans, past-antisym, elects-past, candidate-again, tightened-behind, trailedAt-still}
-use Rattle.book.proofs.Lists.{All, all-map}
+use Rattle.book.proofs.Lists.{all-map}
+use Rattle.book.specs.Lists.{All}
 use Rattle.book.proofs.Soundness.{consistent-parts, sound-parts}
 use Rattle.book.specs.Book.{Slot, vacant, held, sideOf, stopOf, watermarkOf}
 use Rattle.book.specs.Evaluation.{trailed, leaves}
@@ -117,7 +118,7 @@ Trails (held t) = 1 ≤ t .terms .trail
 
 slot-sound-trails : (next tick : ℕ) (s : Slot) → soundStop next tick s ≡ true → Trails s
 slot-sound-trails next tick vacant e = tt
-slot-sound-trails next tick (held t) e = consistent-parts t (sound-parts next tick t e .terms) .0
+slot-sound-trails next tick (held t) e = consistent-parts (t .terms) (sound-parts next tick t e .terms) .0
 
 pub trails-of-sound : (next tick : ℕ) (ss : List Slot) → All (λ s. soundStop next tick s ≡ true) ss → All Trails ss
 trails-of-sound next tick ss h = all-map (slot-sound-trails next tick) ss h

@@ -1,23 +1,16 @@
--- A valid book, part by part, and a book whose numbers are words.
-use Prim.Native.Nat.{_≤_, _<_, _^_}
+-- A valid book, part by part.
 use mathlib.Core.Path.{_≡_}
 use mathlib.Core.Bool.{true, _&&_}
 use borrow.Author.Tests.{leb-true, le-leb}
 use lib.Dec.{leb}
 use lib.ListN.{length}
 use Rattle.pricelevel.proofs.Bools.{and-parts}
-use Rattle.book.proofs.Lists.{All, every-all, all-every, sameList-equal, sameList-refl}
-use Rattle.book.specs.Book.{Slot, vacant, held, Book}
+use Rattle.book.proofs.Lists.{every-all, all-every, sameList-equal, sameList-refl}
+use Rattle.book.specs.Book.{Book}
 use Rattle.book.specs.Lists.{every}
-use Rattle.book.specs.Words.{mostRecords, soundStop, allDiffer, vacantIndices, sortRising, valid}
-use Rattle.book.specs.declared.StopEntry.{StopEntry}
-
-pub record Valid (b : Book) : Type 0 where
-  pub some-records : 1 ≤ length (b .slots)
-  pub few-records : length (b .slots) ≤ mostRecords
-  pub sound : All (λ s. soundStop (b .next) (b .tick) s ≡ true) (b .slots)
-  pub differ : allDiffer (b .slots) ≡ true
-  pub free-vacant : sortRising (b .free) ≡ vacantIndices 1 (b .slots)
+use Rattle.book.specs.Words.{soundStop, allDiffer, vacantIndices, sortRising, valid}
+use Rattle.book.specs.Sizes.{mostRecords}
+use Rattle.book.specs.Valid.{Valid}
 
 pub valid-parts : (b : Book) → valid b ≡ true → Valid b
 unfolding valid
@@ -45,22 +38,3 @@ valid-of b h =
       h .free-vacant,
       sameList-refl (vacantIndices 1 (b .slots)),
     )
-
--- the numbers of a stop, of a record and of a book are below 2^64
-pub record StopFits (t : StopEntry) : Type 0 where
-  pub high : t .id .high < 2 ^ 64
-  pub low : t .id .low < 2 ^ 64
-  pub stop : t .terms .stop .0 < 2 ^ 64
-  pub watermark : t .terms .watermark .0 < 2 ^ 64
-  pub trail : t .terms .trail < 2 ^ 64
-  pub quantity : t .quantity .0 < 2 ^ 64
-  pub seq : t .seq .0 < 2 ^ 64
-
-abbrev pub SlotFits : Slot → Type 0
-SlotFits vacant = Unit {0}
-SlotFits (held t) = StopFits t
-
-pub record Fits (b : Book) : Type 0 where
-  pub next : b .next < 2 ^ 64
-  pub tick : b .tick < 2 ^ 64
-  pub slots : All SlotFits (b .slots)

@@ -1,4 +1,5 @@
 -- Well-formed words are the layout of a valid book whose numbers are words, with any words behind it, and so is each such layout.
+use Rattle.book.proofs.Slots.{slotsAt-all, kindNumber-most, slotAt-fits, sideNumber-most}
 use Prim.Native.Nat.{ℕ, zero, suc, _+_, _-_, _*_, _≤_, _<_, _^_}
 use mathlib.Core.Path.{_≡_, sym}
 use mathlib.Core.Bool.{Bool, true, false, cond}
@@ -17,14 +18,16 @@ use Rattle.pricelevel.specs.declared.Side.{Side}
 use Rattle.pricelevel.specs.declared.Side.the-variants.{Buy, Sell}
 use Rattle.book.proofs.ChainIndices.{headOr0-all, nextIn-all, chainIndices-range}
 use Rattle.book.proofs.FreeChain.{VacantFrom, pendingCount-vacant, free-all-vacant}
-use Rattle.book.proofs.Lists.{All, all-map, all-append, all-getD, every-all, all-every, sameList-equal, sameList-refl}
+use Rattle.book.proofs.Lists.{all-map, all-append, all-getD, every-all, all-every, sameList-equal, sameList-refl}
 use Rattle.book.proofs.Places.{layout-length, layout-count}
 use Rattle.book.proofs.Reading.{slotsAt-length, bookOf-layout}
-use Rattle.book.proofs.Validity.{Valid, valid-parts, valid-of, SlotFits, Fits}
+use Rattle.book.proofs.Validity.{valid-parts, valid-of}
+use Rattle.book.specs.Valid.{Valid, SlotFits, Fits}
 use Rattle.book.specs.Book.{Slot, vacant, held, Book, Chain, ByStop, ByWatermark, sideOf}
-use Rattle.book.specs.Lists.{headOr0}
+use Rattle.book.specs.Lists.{headOr0, All}
 use Rattle.book.specs.Store.{stored, storedBook}
-use Rattle.book.specs.Words.{headerLength, recordLength, storeLength, nextIn, chainIndices, header, recordWords, recordsWords, layout, cell, recordWord, entryAt, slotAt, slotsAt, bookOf, valid, areWords, wellFormed}
+use Rattle.book.specs.Words.{nextIn, chainIndices, header, recordWords, recordsWords, layout, cell, recordWord, entryAt, slotAt, slotsAt, bookOf, valid, areWords, wellFormed, dataWords, afterByStop, afterByWatermark, withLinks}
+use Rattle.book.specs.Sizes.{headerLength, recordLength, storeLength}
 
 ------------------------------------------------------------------------
 -- Words
@@ -92,36 +95,12 @@ module _ (w : List ℕ) (e : wellFormed w ≡ true) where
   unfolding recordWord cell
   recordWord-fits i k low high h = wellFormed-word (headerLength + recordLength * (i - 1) + k) (omega arith)
 
-  slotAt-fits : (i : ℕ) → 1 ≤ i → i ≤ getD w 0 0 → SlotFits (slotAt w i)
-  unfolding slotAt entryAt
-  slotAt-fits i low high = go (eqb (recordWord w i 7) 0)
-    where
-      word : (k : ℕ) → k < recordLength → IsWord (recordWord w i k)
-      word k h = recordWord-fits i k low high h
-
-      go : (t : Bool) → SlotFits (cond t vacant (held (entryAt w i)))
-      go true = tt
-      go false = record {
-        high = word 1 (omega arith);
-        low = word 2 (omega arith);
-        stop = word 4 (omega arith);
-        watermark = word 5 (omega arith);
-        trail = word 6 (omega arith);
-        quantity = word 7 (omega arith);
-        seq = word 8 (omega arith);
-      }
-
-  slotsAt-fits : (i k : ℕ) → 1 ≤ i → i + k ≤ suc (getD w 0 0) → All SlotFits (slotsAt w i k)
-  unfolding slotsAt
-  slotsAt-fits i zero low h = tt
-  slotsAt-fits i (suc k) low h = (slotAt-fits i low (omega arith), slotsAt-fits (suc i) k (omega arith) (omega arith))
-
   pub wellFormed-fits : Fits (bookOf w)
   unfolding bookOf
   wellFormed-fits = record {
     next = wellFormed-word 2 (omega arith);
     tick = wellFormed-word 3 (omega arith);
-    slots = slotsAt-fits 1 (getD w 0 0) (omega arith) (omega arith);
+    slots = slotsAt-all SlotFits w 1 (getD w 0 0) (λ j low high. slotAt-fits w j (λ k h. recordWord-fits j k low (omega arith) h));
   }
 
 pub bookOf-slots-length : (w : List ℕ) → length (bookOf w .slots) ≡ getD w 0 0
@@ -130,15 +109,6 @@ bookOf-slots-length w = slotsAt-length w 1 (getD w 0 0)
 
 ------------------------------------------------------------------------
 -- The layout of a valid book
-
-kindNumber-most : (k : IdKind) → kindNumber k ≤ 2
-kindNumber-most Uuid = omega arith
-kindNumber-most Ulid = omega arith
-kindNumber-most Sequential = omega arith
-
-sideNumber-most : (s : Side) → sideNumber s ≤ 1
-sideNumber-most Buy = omega arith
-sideNumber-most Sell = omega arith
 
 module _ (b : Book) (v : Valid b) (f : Fits b) where
   free-words : All IsWord (b .free)
@@ -168,7 +138,7 @@ module _ (b : Book) (v : Valid b) (f : Fits b) where
       )
 
   recordWords-words : (i : ℕ) (s : Slot) → SlotFits s → All IsWord (recordWords b i s)
-  unfolding recordWords
+  unfolding recordWords dataWords afterByStop afterByWatermark withLinks
   recordWords-words i vacant h = omega (arith, nextIn-all IsWord (b .free) i (omega arith) free-words)
   recordWords-words i (held t) h =
       omega (arith, kindNumber-most (t .id .kind), sideNumber-most (sideOf t), link-word (ByStop (sideOf t)) i, link-word (ByWatermark (sideOf t)) i)

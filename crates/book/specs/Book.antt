@@ -8,6 +8,7 @@ use Rattle.pricelevel.specs.declared.Side.{Side}
 use Rattle.pricelevel.specs.declared.Side.the-variants.{Buy, Sell}
 pub use Rattle.book.specs.declared.Chain.{Chain}
 pub use Rattle.book.specs.declared.Chain.the-variants.{ByStop, ByWatermark}
+use Rattle.book.specs.Lists.{sortBy}
 use Rattle.book.specs.declared.StopEntry.{StopEntry}
 
 -- one of the n records
@@ -22,7 +23,7 @@ pub record Book : Type 0 where
   pub slots : List Slot
   pub free : List ℕ
 
-unfoldable pub chainSide : Chain → Side
+abbrev pub chainSide : Chain → Side
 chainSide (ByStop s) = s
 chainSide (ByWatermark s) = s
 
@@ -65,13 +66,11 @@ gather choice i [] = []
 gather choice i (s ∷ ss) = withIndex i (choice s) (gather choice (suc i) ss)
 
 -- in the order of a chain
-unfoldable pub insert : Chain → Pending → List Pending → List Pending
-insert c x [] = x ∷ []
-insert c x (y ∷ l) = cond (before c (x .entry) (y .entry)) (x ∷ y ∷ l) (y ∷ insert c x l)
+abbrev pub earlierIn : Chain → Pending → Pending → Bool
+earlierIn c p q = before c (p .entry) (q .entry)
 
-unfoldable pub sort : Chain → List Pending → List Pending
-sort c [] = []
-sort c (x ∷ l) = insert c x (sort c l)
+abbrev pub sort : Chain → List Pending → List Pending
+sort c l = sortBy (earlierIn c) l
 
 -- the stop, if it is of this side
 unfoldable pub ofSide : Side → Side → StopEntry → Option StopEntry
@@ -87,6 +86,9 @@ pendingOn side (held t) = ofSide side (sideOf t) t
 -- a chain holds exactly the pending records of its side, in order
 unfoldable pub chain : Chain → List Slot → List Pending
 chain c ss = sort c (gather (pendingOn (chainSide c)) 1 ss)
+
+unfoldable pub entries : List Pending → List StopEntry
+entries l = map (λ p. p .entry) l
 
 unfoldable pub indices : List Pending → List ℕ
 indices l = map (λ p. p .index) l

@@ -74,11 +74,11 @@ movedBy price b = movedOn price Sell b ++ movedOn price Buy b
 
 -- a stop that left, with the price of the point that elected it
 pub record Fill : Type 0 where
-  pub stop : Pending
+  pub stop : StopEntry
   pub trigger : Price
 
 unfoldable pub fillAt : Price → Pending → Fill
-fillAt price p = record { stop = p; trigger = price }
+fillAt price p = record { stop = p .entry; trigger = price }
 
 -- what a point, or several, did
 pub record Evaluated : Type 0 where

@@ -1,10 +1,14 @@
+pub mod Answers
 pub mod Book
 pub mod Calls
+pub mod Chains
 pub mod Evaluation
 pub mod Lists
 pub mod Path
-pub mod Questions
 pub mod Runs
 pub mod Script
+pub mod Sizes
+pub mod Steps
 pub mod Store
+pub mod Valid
 pub mod Words

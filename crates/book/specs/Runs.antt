@@ -3,7 +3,7 @@ use Prim.Native.Nat.{ℕ, _≤_}
 use mathlib.Core.Bool.{Bool}
 use mathlib.Core.List.{List, [], _∷_, map}
 use mathlib.Core.Path.{_≡_}
-use lib.ListN.{take}
+use lib.ListN.{length}
 use Rattle.error.specs.Answer.{accepted}
 use Rattle.pricelevel.specs.declared.Id.{Id}
 use Rattle.pricelevel.specs.declared.Price.{Price}
@@ -48,13 +48,14 @@ likeness e = record {
   pending = e .pending;
 }
 
--- Demand 3, of the segment over a run's ends and the walk over the run: neither is refused; both answer the same number elected; their
--- elected entries are alike, entry by entry; and the two stores are equal in every word
+-- Demand 3, of the segment over a run's ends and the walk over the run: neither is refused; both answer the same number elected, and list
+-- that many; their elected entries are alike, entry by entry; and the two stores are equal in every word
 pub record DecidedByEnds (ends : SegmentOutcome) (run : WalkOutcome) : Type 0 where
   pub elected : ℕ
   pub moves : ℕ
   pub steps : ℕ
   pub ends-answer : ends .answer ≡ accepted (record { moves = moves; elected = elected })
   pub run-answer : run .answer ≡ accepted (record { moves = steps; elected = elected })
-  pub alike : map likeness (take elected (ends .elected)) ≡ map likeness (take elected (run .elected))
+  pub listed : length (ends .elected) ≡ elected
+  pub alike : map likeness (ends .elected) ≡ map likeness (run .elected)
   pub stores : ends .words ≡ run .words

@@ -9,14 +9,13 @@ use lib.ListN.{length, getD, drop}
 use Rattle.pricelevel.specs.declared.Price.{Price}
 use Rattle.book.specs.Book.{Book, pendingCount}
 use Rattle.book.specs.Evaluation.{Evaluated, Fill, segment}
+use Rattle.book.specs.Sizes.{scriptEntryLength}
 use Rattle.book.specs.declared.Elected.{Elected}
 use Rattle.book.specs.declared.LastPrice.{LastPrice}
 use Rattle.book.specs.declared.LastPrice.the-variants as last
 use Rattle.book.specs.declared.PrintSegment.{PrintSegment}
 
 -- an entry is five words: printed (0, 1), prev present (0, 1), prev, first, last
-abbrev pub scriptEntryLength : ℕ
-scriptEntryLength = 5
 
 -- whole entries only, both flags always 0 or 1
 unfoldable pub scriptFormed : List ℕ → Bool

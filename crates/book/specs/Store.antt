@@ -18,16 +18,19 @@ use Rattle.pricelevel.specs.declared.Side.the-variants.{Buy, Sell}
 use Rattle.stop_terms.specs.Terms.{behind, electedAt}
 use Rattle.stop_terms.specs.declared.StopTerms.{StopTerms}
 use Rattle.book.specs.Book.{Slot, vacant, held, Book, Chain, ByStop, Pending, sideOf, stopOf, pendingOn, chain, pendingCount}
-use Rattle.book.specs.Lists.{headOr0, rising}
+use Rattle.book.specs.Lists.{headOr0, rising, isSome}
 use Rattle.book.specs.Path.{closed}
-use Rattle.book.specs.Questions.{Question, question, firstNo, decide}
-use Rattle.book.specs.Words.{mostRecords, storeLength, layout, bookOf, wellFormed}
+use Rattle.error.specs.Questions.{Question, question, firstNo, decide}
+use Rattle.book.specs.Words.{layout, bookOf, wellFormed}
+use Rattle.book.specs.Sizes.{mostRecords, storeLength}
 use Rattle.book.specs.declared.LastPrice.{LastPrice}
 use Rattle.book.specs.declared.LastPrice.the-variants as last
 use Rattle.book.specs.declared.OrderUpdate.{OrderUpdate}
 use Rattle.book.specs.declared.OrderUpdate.the-variants.{UpdateQuantity, UpdatePrice, UpdatePriceAndQuantity, Replace}
 use Rattle.book.specs.declared.PrintPath.{PrintPath}
 use Rattle.book.specs.declared.StopEntry.{StopEntry}
+use Rattle.book.specs.declared.Totals.{Totals}
+use Rattle.book.specs.declared.TwoWords.{TwoWords}
 
 -- what a call on the store answers, and every word after it
 pub record StoreOutcome (A : Type 0) : Type 0 where
@@ -78,10 +81,6 @@ named id (p ∷ l) = cond (sameId id (p .entry .id)) (some p) (named id l)
 -- along the sell stop chain, then the buy stop chain
 unfoldable pub lookup : Id → Book → Option Pending
 lookup id b = named id (chain (ByStop Sell) (b .slots) ++ chain (ByStop Buy) (b .slots))
-
-unfoldable pub isSome : {A : Type 0} → Option A → Bool
-isSome none = false
-isSome (some x) = true
 
 unfoldable pub isPending : Id → Book → Bool
 isPending id b = isSome (lookup id b)
@@ -256,18 +255,12 @@ total side [] = 0
 total side (s ∷ ss) = quantityOf (pendingOn side s) + total side ss
 
 -- a sum as two words
-pub record TwoWords : Type 0 where
-  pub high : ℕ
-  pub low : ℕ
-
 unfoldable pub twoWords : ℕ → TwoWords
 twoWords n = record { high = n / 2 ^ 64; low = n % 2 ^ 64 }
 
-pub record Totals : Type 0 where
-  pub sell : TwoWords
-  pub buy : TwoWords
+unfoldable pub totalsOf : List Slot → Totals
+totalsOf ss = record { sell = twoWords (total Sell ss); buy = twoWords (total Buy ss) }
 
 unfoldable pub pendingQuantity : List ℕ → Answer Totals
 pendingQuantity w =
-    decide (firstNo (question 1 (wellFormed w) ∷ [])) refused
-    (accepted (record { sell = twoWords (total Sell (bookOf w .slots)); buy = twoWords (total Buy (bookOf w .slots)) }))
+    decide (firstNo (question 1 (wellFormed w) ∷ [])) refused (accepted (totalsOf (bookOf w .slots)))

@@ -4,7 +4,7 @@ use mathlib.Core.Bool.{Bool, true, false, cond, not, _&&_}
 use mathlib.Core.List.{List, [], _∷_, _++_}
 use mathlib.Core.Option.{Option, none, some}
 use lib.Dec.{leb, ltb, eqb}
-use lib.ListN.{length, getD, take, replicate}
+use lib.ListN.{length, getD, take, drop, replicate}
 use Rattle.pricelevel.specs.Identity.{kindNumber, sameId}
 use Rattle.pricelevel.specs.Side.{sideNumber}
 use Rattle.pricelevel.specs.Tick.{onTick}
@@ -12,24 +12,12 @@ use Rattle.pricelevel.specs.declared.IdKind.{IdKind}
 use Rattle.pricelevel.specs.declared.IdKind.the-variants.{Uuid, Ulid, Sequential}
 use Rattle.pricelevel.specs.declared.Side.{Side}
 use Rattle.pricelevel.specs.declared.Side.the-variants.{Buy, Sell}
-use Rattle.stop_terms.specs.Terms.{inconsistencyOf}
+use Rattle.stop_terms.specs.Terms.{inconsistencyOf, inconsistencyNumber}
+use Rattle.stop_terms.specs.declared.StopTerms.{StopTerms}
 use Rattle.book.specs.Book.{Slot, vacant, held, Book, Chain, ByStop, ByWatermark, sideOf, stopOf, watermarkOf, seqOf, chain, indices, pendingCount}
-use Rattle.book.specs.Lists.{headOr0, rising, every, sameList}
+use Rattle.book.specs.Lists.{headOr0, isNone, every, sameList, sortBy}
+use Rattle.book.specs.Sizes.{headerLength, recordLength, mostRecords, storeLength, nextByStop, dataLength}
 use Rattle.book.specs.declared.StopEntry.{StopEntry}
-
--- header words, words of a record, most records
-abbrev pub headerLength : ℕ
-headerLength = 9
-
-abbrev pub recordLength : ℕ
-recordLength = 11
-
-abbrev pub mostRecords : ℕ
-mostRecords = 700
-
--- the words of a store of n records
-abbrev pub storeLength : ℕ → ℕ
-storeLength n = headerLength + recordLength * n
 
 ------------------------------------------------------------------------
 -- From a book to its words
@@ -50,14 +38,33 @@ header b =
     ∷ headOr0 (chainIndices (ByStop Buy) b) ∷ headOr0 (chainIndices (ByWatermark Buy) b)
     ∷ headOr0 (b .free) ∷ []
 
--- kind, identity high, identity low, side, stop, watermark, trail, quantity, sequence, next by stop, next by watermark; the free chain
--- goes through next by stop, and the remaining words of its records are zero
-unfoldable pub recordWords : Book → ℕ → Slot → List ℕ
-recordWords b i vacant = replicate 9 0 ++ (nextIn (b .free) i ∷ 0 ∷ [])
-recordWords b i (held t) =
+-- the words of a record that are no link: kind, identity high, identity low, side, stop, watermark, trail, quantity, sequence; those of a
+-- free one are zero
+unfoldable pub dataWords : Slot → List ℕ
+dataWords vacant = replicate dataLength 0
+dataWords (held t) =
     kindNumber (t .id .kind) ∷ t .id .high ∷ t .id .low ∷ sideNumber (sideOf t) ∷ stopOf t ∷ watermarkOf t ∷ t .terms .trail
-    ∷ t .quantity .0 ∷ seqOf t
-    ∷ nextIn (chainIndices (ByStop (sideOf t)) b) i ∷ nextIn (chainIndices (ByWatermark (sideOf t)) b) i ∷ []
+    ∷ t .quantity .0 ∷ seqOf t ∷ []
+
+-- the two links: the free chain goes through next by stop
+unfoldable pub afterByStop : Book → ℕ → Slot → ℕ
+afterByStop b i vacant = nextIn (b .free) i
+afterByStop b i (held t) = nextIn (chainIndices (ByStop (sideOf t)) b) i
+
+unfoldable pub afterByWatermark : Book → ℕ → Slot → ℕ
+afterByWatermark b i vacant = 0
+afterByWatermark b i (held t) = nextIn (chainIndices (ByWatermark (sideOf t)) b) i
+
+-- the links stand at their places among the data
+unfoldable pub withLinks : List ℕ → ℕ → ℕ → List ℕ
+withLinks words byStop byWatermark = take nextByStop words ++ (byStop ∷ byWatermark ∷ drop nextByStop words)
+
+-- data word k of a record, by what it holds
+abbrev pub dataWord : Slot → ℕ → ℕ
+dataWord s k = getD (withLinks (dataWords s) 0 0) k 0
+
+unfoldable pub recordWords : Book → ℕ → Slot → List ℕ
+recordWords b i s = withLinks (dataWords s) (afterByStop b i s) (afterByWatermark b i s)
 
 unfoldable pub recordsWords : Book → ℕ → List Slot → List ℕ
 recordsWords b i [] = []
@@ -110,7 +117,7 @@ slotsAt w i (suc k) = slotAt w i ∷ slotsAt w (suc i) k
 -- the free chain from index i on, of at most k records
 unfoldable pub freeFrom : List ℕ → ℕ → ℕ → List ℕ
 freeFrom w zero i = []
-freeFrom w (suc k) i = cond (eqb i 0) [] (i ∷ freeFrom w k (recordWord w i 9))
+freeFrom w (suc k) i = cond (eqb i 0) [] (i ∷ freeFrom w k (recordWord w i nextByStop))
 
 unfoldable pub bookOf : List ℕ → Book
 bookOf w = record {
@@ -123,13 +130,13 @@ bookOf w = record {
 ------------------------------------------------------------------------
 -- Well formed
 
-unfoldable pub consistent : StopEntry → Bool
-consistent t = elim (inconsistencyOf (t .terms)) [ none ↦ true | some k ↦ false ]
+unfoldable pub consistent : StopTerms → Bool
+consistent t = isNone (inconsistencyNumber (inconsistencyOf t))
 
 -- sequence below word 2; quantity and trail at least 1; no inconsistency; trail a multiple of a non-zero tick
 unfoldable pub soundStop : ℕ → ℕ → Slot → Bool
 soundStop next tick vacant = true
-soundStop next tick (held t) = ltb (seqOf t) next && (leb 1 (t .quantity .0) && (consistent t && onTick tick (t .terms .trail)))
+soundStop next tick (held t) = ltb (seqOf t) next && (leb 1 (t .quantity .0) && (consistent (t .terms) && onTick tick (t .terms .trail)))
 
 -- identities differ, sequences differ
 unfoldable pub differs : StopEntry → Slot → Bool
@@ -147,13 +154,8 @@ vacantIndices i [] = []
 vacantIndices i (vacant ∷ ss) = i ∷ vacantIndices (suc i) ss
 vacantIndices i (held t ∷ ss) = vacantIndices (suc i) ss
 
-unfoldable pub insertRising : ℕ → List ℕ → List ℕ
-insertRising i [] = i ∷ []
-insertRising i (j ∷ l) = cond (ltb i j) (i ∷ j ∷ l) (j ∷ insertRising i l)
-
-unfoldable pub sortRising : List ℕ → List ℕ
-sortRising [] = []
-sortRising (i ∷ l) = insertRising i (sortRising l)
+abbrev pub sortRising : List ℕ → List ℕ
+sortRising l = sortBy ltb l
 
 unfoldable pub valid : Book → Bool
 valid b =

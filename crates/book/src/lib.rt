@@ -1,5 +1,6 @@
 // The book of pending stops: the types that its calls lend, take and answer, from orderbook-rs's stop_orders.rs. What the calls
 // mean stands in specs/, and what holds of them in proofs/; no code runs here.
+use error::Refusal;
 use pricelevel::Id;
 use pricelevel::Price;
 use pricelevel::Quantity;
@@ -9,6 +10,36 @@ use stop_protection::Limit;
 use stop_protection::Protection;
 use stop_terms::StopTerms;
 use uuid::Uuid;
+
+// The words of a store: those of its header and of each record, and the most records. A record's links stand at two of its words; the
+// others are data.
+pub const HEADER_WORDS: usize = 9;
+
+pub const RECORD_WORDS: usize = 11;
+
+pub const MOST_RECORDS: usize = 700;
+
+pub const DATA_WORDS: usize = 9;
+
+pub const NEXT_BY_STOP: usize = 9;
+
+pub const NEXT_BY_WATERMARK: usize = 10;
+
+// The most prices of a run, and the words of a script's entry.
+pub const MOST_PRICES: usize = 4096;
+
+pub const SCRIPT_ENTRY_WORDS: usize = 5;
+
+// The words of an entry of a list: of the elected, and of the moved, of which a segment lists at most two a stop.
+pub const ELECTED_WORDS: usize = 13;
+
+pub const MOVED_WORDS: usize = 4;
+
+pub const MOST_MOVES: usize = 2 * MOST_RECORDS;
+
+pub type ElectedWords = [u64; ELECTED_WORDS];
+
+pub type MovedWords = [u64; MOVED_WORDS];
 
 // A pending stop: its identity, its terms as they stand, its quantity and its admission sequence.
 pub struct StopEntry {
@@ -22,6 +53,12 @@ pub struct StopEntry {
 pub enum Chain {
     ByStop(Side),
     ByWatermark(Side),
+}
+
+// The five chains of a store: those four, and that of the free records.
+pub enum StoreChain {
+    Ordered(Chain),
+    Free,
 }
 
 // A change of a pending stop. Its watermark and trail stay.
@@ -80,4 +117,93 @@ pub struct Settings {
     pub kill: bool,
     pub protection: Protection,
     pub namespace: Uuid,
+}
+
+// ---------------------------------------------------------------------
+// What calls answer
+
+// What layout_store answers.
+pub enum LayoutAnswer {
+    Ok,
+    Err(Refusal),
+}
+
+// What an admission answers: the sequence of the stop, or why it was refused.
+pub enum AdmissionAnswer {
+    Ok(Seq),
+    Err(Refusal),
+}
+
+// The answer of an admission, and the print path after it.
+pub struct Admission {
+    pub answer: AdmissionAnswer,
+    pub path: PrintPath,
+}
+
+// What a cancel or a change answers: the stop before a cancel, or after a change; or why it was refused.
+pub enum StopAnswer {
+    Ok(StopEntry),
+    Err(Refusal),
+}
+
+// What a search for an identity answers: the pending stop, none, or why it was refused.
+pub enum FindAnswer {
+    Found(StopEntry),
+    None,
+    Err(Refusal),
+}
+
+// What clear answers, and the print path after it.
+pub struct Cleared {
+    pub answer: LayoutAnswer,
+    pub path: PrintPath,
+}
+
+// A sum as two words.
+pub struct TwoWords {
+    pub high: u64,
+    pub low: u64,
+}
+
+// The pending quantity of each side.
+pub struct Totals {
+    pub sell: TwoWords,
+    pub buy: TwoWords,
+}
+
+// What the pending quantity of each side answers, or why it was refused.
+pub enum QuantityAnswer {
+    Ok(Totals),
+    Err(Refusal),
+}
+
+// How many stops were moved, once per point, and how many were elected.
+pub struct Counts {
+    pub moves: u64,
+    pub elected: u64,
+}
+
+// What a segment or a walk answers, or why it was refused.
+pub enum EvaluationAnswer {
+    Ok(Counts),
+    Err(Refusal),
+}
+
+// How many stops were moved, once per point, how many were elected, and how many script entries were used.
+pub struct PassCounts {
+    pub moves: u64,
+    pub elected: u64,
+    pub used: u64,
+}
+
+// What a pass answers, or why it was refused.
+pub enum PassAnswer {
+    Ok(PassCounts),
+    Err(Refusal),
+}
+
+// The answer of a run, and the print path after it.
+pub struct StopRun {
+    pub answer: PassAnswer,
+    pub path: PrintPath,
 }

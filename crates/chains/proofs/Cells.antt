@@ -2,7 +2,8 @@
 use Prim.Native.Nat.{ℕ, _+_, _-_, _*_, _≤_, _<_}
 use mathlib.Core.Path.{_≡_}
 use native.Mathlib.Omega.{arith}
-use Rattle.book.specs.Words.{headerLength, recordLength, storeLength, cell}
+use Rattle.book.specs.Words.{cell}
+use Rattle.book.specs.Sizes.{headerLength, recordLength, storeLength}
 
 -- behind the header
 pub cell-least : (i k : ℕ) → headerLength ≤ cell i k

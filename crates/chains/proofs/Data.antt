@@ -6,11 +6,13 @@ use mathlib.Core.List.{List, [], _∷_}
 use native.Mathlib.Omega.{arith}
 use lib.ListN.{length, getD, set, drop, length-set}
 use lib.Seq.{getD-set-same, getD-set-other, drop-set-lt, sets}
-use Rattle.book.specs.Words.{headerLength, recordLength, storeLength, cell, recordWord}
+use Rattle.book.specs.Words.{cell, recordWord}
+use Rattle.book.specs.Sizes.{headerLength, recordLength, storeLength}
 use Rattle.chains.proofs.Cells.{cell-least, cell-end, cell-plus, cell-injective}
-use Rattle.chains.proofs.Chained.{chained-set-data, ready-set}
-use Rattle.chains.specs.Chained.{Name, Chained, Ready}
-use Rattle.chains.specs.Records.{dataLength, Record}
+use Rattle.chains.proofs.Chained.{ready-set}
+use Rattle.chains.specs.Chained.{Chained, Ready}
+use Rattle.book.specs.declared.StoreChain.{StoreChain}
+use Rattle.chains.specs.Records.{Record}
 
 ------------------------------------------------------------------------
 -- A run of stores
@@ -69,8 +71,5 @@ module _ (n : ℕ) (w : List ℕ) (i : ℕ) (vs : List ℕ) (few : length vs ≤
 ------------------------------------------------------------------------
 -- The chains
 
-pub chained-sets : (n : ℕ) (w : List ℕ) (ch : Name → List ℕ) (i : ℕ) (vs : List ℕ) → 1 ≤ i → length vs ≤ dataLength → Chained n w ch → Chained n (sets w (cell i 0) vs) ch
-chained-sets n w ch i vs least h = sets-keeps (λ v. Chained n v ch) i dataLength (λ v k x t s. chained-set-data n v ch s i k x least t) vs w 0 (omega arith)
-
-pub ready-sets : (n : ℕ) (w : List ℕ) (ch : Name → List ℕ) (i : ℕ) (vs : List ℕ) → length vs ≤ recordLength → Ready n w ch i → Ready n (sets w (cell i 0) vs) ch i
+pub ready-sets : (n : ℕ) (w : List ℕ) (ch : StoreChain → List ℕ) (i : ℕ) (vs : List ℕ) → length vs ≤ recordLength → Ready n w ch i → Ready n (sets w (cell i 0) vs) ch i
 ready-sets n w ch i vs h = sets-keeps (λ v. Ready n v ch i) i recordLength (λ v k x t r. ready-set n v ch i k x t r) vs w 0 (omega arith)

@@ -1,11 +1,15 @@
+pub mod Ascending
 pub mod Cells
 pub mod Chained
+pub mod Copying
 pub mod Data
 pub mod Kept
+pub mod Linked
 pub mod Linking
 pub mod Members
 pub mod Moving
 pub mod Names
+pub mod Ranked
 pub mod Ranks
 pub mod Sorting
 pub mod Walking

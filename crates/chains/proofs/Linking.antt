@@ -4,19 +4,20 @@ use Prim.Native.Nat.{ℕ, _≤_, _<_}
 use mathlib.Core.Path.{_≡_, refl, sym, ap, _∙_}
 use mathlib.Core.Logic.{_≢_}
 use mathlib.Core.Bool.{Bool, true, false, cond}
-use mathlib.Core.List.{List, [], _∷_}
+use mathlib.Core.List.{List, [], _∷_, _++_}
 use native.Mathlib.Omega.{arith}
-use borrow.Author.Tests.{eqb-true, eqb-false, eq-eqb, ne-eqb}
+use borrow.Author.Tests.{eqb-true, eqb-false, eq-eqb, ne-eqb, le-ltb}
 use borrow.Table.Steps.{cases}
 use lib.Dec.{T, ltb, eqb}
 use lib.ListN.{length, getD, set, length-set}
 use lib.Seq.{getD-set-same, getD-set-other}
-use Rattle.book.proofs.FreeChain.{Distinct}
-use Rattle.book.proofs.Lists.{All, all-map}
+use Rattle.book.proofs.Sorting.{Distinct}
+use Rattle.book.proofs.Lists.{all-map}
 use Rattle.book.specs.Words.{cell}
-use Rattle.chains.proofs.Members.{has-none, has-rest, all-has, distinct-length}
-use Rattle.chains.specs.Indices.{insertBy, remove, has}
-use Rattle.chains.specs.Links.{Linked, place, spot, putIn, putOut}
+use Rattle.chains.proofs.Members.{has-none, has-rest, all-has, distinct-length, has-here, has-there}
+use Rattle.chains.specs.Indices.{insertRanked, remove, has}
+use Rattle.chains.specs.Links.{Linked, place, spot, putIn, putOut, wordAfter}
+use Rattle.book.specs.Lists.{insertBy, All}
 
 -- q is word k of no record of l
 abbrev pub Apart : ℕ → ℕ → List ℕ → Type 0
@@ -128,7 +129,7 @@ module _ (n k : ℕ) where
 
     -- in, at its place
     pub link-in : (rk : ℕ → ℕ) (p : ℕ) (l : List ℕ) → p < length w → cell i k ≢ p → Apart (cell i k) k l → Linked n w k p l
-        → Linked n (putIn w k i (place rk k i p l)) k p (insertBy rk i l)
+        → Linked n (putIn w k i (place rk k i p l)) k p (insertRanked rk i l)
     unfolding place insertBy
     link-in rk p [] hp ne na c = link-first p [] hp ne na c
     link-in rk p (j ∷ l) hp ne na c = cases (ltb (rk i) (rk j))
@@ -160,3 +161,45 @@ module _ (n k : ℕ) where
           c .2,
           link-out (cell j k) l (room j (c .1) (c .2)) (has-rest i j l (eqb-false j i e) h) (c .3),
         ))
+
+------------------------------------------------------------------------
+-- Its first record
+
+-- a chain whose first record is i
+pub record From (n : ℕ) (w : List ℕ) (k i : ℕ) (l : List ℕ) : Type 0 where
+  pub rest : List ℕ
+  pub is : l ≡ i ∷ rest
+  pub least : 1 ≤ i
+  pub most : i ≤ n
+  pub linked : Linked n w k (cell i k) rest
+
+pub linked-from : (n : ℕ) (w : List ℕ) (k p i : ℕ) (l : List ℕ) → getD w p 0 ≡ i → (i ≡ 0 → ⊥) → Linked n w k p l → From n w k i l
+linked-from n w k p i [] e z h = absurd (z (sym e ∙ h))
+linked-from n w k p i (j ∷ l) e z h =
+    let q : j ≡ i = sym (h .0) ∙ e in
+    record { rest = l; is = rw q; least = rw q at (h .1); most = rw q at (h .2); linked = rw q at (h .3) }
+
+------------------------------------------------------------------------
+-- In two parts
+
+pub wordAfter-end : (k p : ℕ) (f : List ℕ) (i : ℕ) → wordAfter k p (f ++ (i ∷ [])) ≡ cell i k
+wordAfter-end k p [] i = refl
+wordAfter-end k p (z ∷ f) i = wordAfter-end k (cell z k) f i
+
+pub wordAfter-all : (P : ℕ → Type 0) (k p : ℕ) (f : List ℕ) → P p → All (λ j. P (cell j k)) f → P (wordAfter k p f)
+wordAfter-all P k p [] h a = h
+wordAfter-all P k p (z ∷ f) h a = wordAfter-all P k (cell z k) f (a .0) (a .1)
+
+pub linked-after : (n : ℕ) (w : List ℕ) (k p : ℕ) (f l : List ℕ) → Linked n w k p (f ++ l) → Linked n w k (wordAfter k p f) l
+linked-after n w k p [] l c = c
+linked-after n w k p (z ∷ f) l c = linked-after n w k (cell z k) f l (c .3)
+
+-- a search passes those that rank at most as the record
+pub place-after : (rk : ℕ → ℕ) (k i p : ℕ) (g l : List ℕ) → All (λ j. rk j ≤ rk i) g → place rk k i p (g ++ l) ≡ place rk k i (wordAfter k p g) l
+place-after rk k i p [] l h = refl
+place-after rk k i p (z ∷ g) l h = place-on k i p rk z (g ++ l) (le-ltb (rk i) (rk z) (h .0)) ∙ place-after rk k i (cell z k) g l (h .1)
+
+pub spot-after : (k i p : ℕ) (f m : List ℕ) → (T (has i f) → ⊥) → spot k i p (f ++ (i ∷ m)) ≡ wordAfter k p f
+spot-after k i p [] m n = spot-stop k i p i m refl
+spot-after k i p (z ∷ f) m n =
+    spot-on k i p z (f ++ (i ∷ m)) (λ e. n (rw e (has-here i f))) ∙ spot-after k i (cell z k) f m (λ h. n (has-there i z f h))

@@ -3,14 +3,14 @@ use Prim.Native.Nat.{ℕ, zero, suc, _≤_}
 use mathlib.Core.Path.{_≡_, refl, sym, ap, _∙_}
 use mathlib.Core.Logic.{_≢_}
 use mathlib.Core.Bool.{Bool, true, false, cond}
-use mathlib.Core.List.{List, [], _∷_}
+use mathlib.Core.List.{List, [], _∷_, _++_}
 use native.Mathlib.Omega.{arith}
 use borrow.Author.Tests.{eqb-true, eqb-false, eq-eqb, ne-eqb}
 use borrow.Table.Steps.{cases}
 use lib.Dec.{T, eqb}
 use lib.ListN.{length}
-use Rattle.book.proofs.FreeChain.{Distinct}
-use Rattle.book.proofs.Lists.{All}
+use Rattle.book.proofs.Sorting.{Distinct}
+use Rattle.book.specs.Lists.{All}
 use Rattle.chains.specs.Indices.{remove, has}
 
 ------------------------------------------------------------------------
@@ -122,3 +122,30 @@ distinct-length (suc n) l d r =
         let b = r j (has-remove j (suc n) l h) in
         let n : j ≢ suc n = λ e. remove-out (suc n) l d (rw e at h) in
         omega arith
+
+------------------------------------------------------------------------
+-- Members of a list in two parts
+
+pub has-first : (j : ℕ) (f l : List ℕ) → T (has j f) → T (has j (f ++ l))
+has-first j [] l h = absurd (has-none j h)
+has-first j (z ∷ f) l h = has-cases j z f h (λ e. rw e (has-here j (f ++ l))) (λ t. has-there j z (f ++ l) (has-first j f l t))
+
+pub has-back : (j : ℕ) (f l : List ℕ) → T (has j l) → T (has j (f ++ l))
+has-back j [] l h = h
+has-back j (z ∷ f) l h = has-there j z (f ++ l) (has-back j f l h)
+
+pub has-parts : {X : Type 0} (j : ℕ) (f l : List ℕ) → T (has j (f ++ l)) → (T (has j f) → X) → (T (has j l) → X) → X
+has-parts j [] l h a b = b h
+has-parts j (z ∷ f) l h a b =
+    has-cases j z (f ++ l) h (λ e. a (rw e (has-here j f))) (λ t. has-parts j f l t (λ u. a (has-there j z f u)) b)
+
+pub remove-after : (i : ℕ) (f m : List ℕ) → (T (has i f) → ⊥) → remove i (f ++ (i ∷ m)) ≡ f ++ m
+remove-after i [] m n = remove-here i m
+remove-after i (z ∷ f) m n =
+    remove-there i z (f ++ (i ∷ m)) (λ e. n (rw e (has-here i f))) ∙ ap (λ (l : List ℕ). z ∷ l) (remove-after i f m (λ h. n (has-there i z f h)))
+
+pub distinct-front : (i : ℕ) (f m : List ℕ) → Distinct (f ++ (i ∷ m)) → T (has i f) → ⊥
+distinct-front i [] m d h = has-none i h
+distinct-front i (z ∷ f) m d h = has-cases i z f h
+    (λ e. distinct-absent z (f ++ (i ∷ m)) d (rw e (has-back i f (i ∷ m) (has-here i m))))
+    (distinct-front i f m (d .1))

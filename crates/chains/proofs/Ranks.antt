@@ -7,7 +7,7 @@ use borrow.Author.Tests.{ltb-true, ltb-false, lt-ltb, le-ltb, eqb-true, eqb-fals
 use borrow.Table.Steps.{cases}
 use lib.Dec.{ltb, eqb}
 use Rattle.pricelevel.specs.declared.Side.the-variants.{Buy, Sell}
-use Rattle.book.proofs.Validity.{StopFits}
+use Rattle.book.specs.Valid.{StopFits}
 use Rattle.book.specs.Book.{stopOf, watermarkOf, seqOf, lexicographic, before}
 use Rattle.book.specs.declared.Chain.{Chain}
 use Rattle.book.specs.declared.Chain.the-variants.{ByStop, ByWatermark}

@@ -6,7 +6,8 @@ use mathlib.Core.List.{List, [], _∷_}
 use native.Mathlib.Omega.{arith}
 use lib.Dec.{T}
 use lib.ListN.{length, getD}
-use Rattle.book.specs.Words.{recordLength, cell}
+use Rattle.book.specs.Words.{cell}
+use Rattle.book.specs.Sizes.{recordLength}
 use Rattle.chains.proofs.Cells.{cell-below}
 use Rattle.chains.proofs.Linking.{linked-unique, linked-length}
 use Rattle.chains.specs.Indices.{has}

@@ -1,28 +1,13 @@
--- Where a chain starts, which word of a record links it, what a chain of links is, and what linking a record in and out writes:
--- document 01, The store.
+-- What a chain of links is, and what linking a record in and out writes: document 01, The store.
 use Prim.Native.Nat.{ℕ, _≤_, _<_}
 use mathlib.Core.Path.{_≡_}
 use mathlib.Core.Bool.{cond}
 use mathlib.Core.List.{List, [], _∷_}
 use lib.Dec.{ltb, eqb}
 use lib.ListN.{length, getD, set}
-use Rattle.pricelevel.specs.declared.Side.the-variants.{Buy, Sell}
-use Rattle.book.specs.Words.{recordLength, cell}
-use Rattle.book.specs.declared.Chain.{Chain}
-use Rattle.book.specs.declared.Chain.the-variants.{ByStop, ByWatermark}
+use Rattle.book.specs.Words.{cell}
+use Rattle.book.specs.Sizes.{recordLength}
 use Rattle.chains.specs.Records.{Room}
-
--- heads: 4 sell stop, 5 sell watermark, 6 buy stop, 7 buy watermark
-abbrev pub headOf : Chain → ℕ
-headOf (ByStop Sell) = 4
-headOf (ByWatermark Sell) = 5
-headOf (ByStop Buy) = 6
-headOf (ByWatermark Buy) = 7
-
--- next by stop, next by watermark
-abbrev pub linkOf : Chain → ℕ
-linkOf (ByStop side) = 9
-linkOf (ByWatermark side) = 10
 
 -- the word at position p names the first record of l, and word k of each the next, up to 0; each is one of the n records
 abbrev pub Linked : ℕ → List ℕ → ℕ → ℕ → List ℕ → Type 0
@@ -35,6 +20,11 @@ pub record Walk (n : ℕ) (w : List ℕ) (k p : ℕ) (l : List ℕ) : Type 0 whe
   pub link : k < recordLength
   pub start : p < length w
   pub linked : Linked n w k p l
+
+-- where the word stands that names what comes after the records l, in the chain that the word at p starts
+abbrev pub wordAfter : ℕ → ℕ → List ℕ → ℕ
+wordAfter k p [] = p
+wordAfter k p (j ∷ l) = wordAfter k (cell j k) l
 
 ------------------------------------------------------------------------
 -- Linking in and out

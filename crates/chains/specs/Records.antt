@@ -2,11 +2,7 @@
 use Prim.Native.Nat.{ℕ, _≤_}
 use mathlib.Core.List.{List}
 use lib.ListN.{length}
-use Rattle.book.specs.Words.{mostRecords, storeLength}
-
--- a record's data words stand before its links
-abbrev pub dataLength : ℕ
-dataLength = 9
+use Rattle.book.specs.Sizes.{mostRecords, storeLength}
 
 pub record Room (n : ℕ) (w : List ℕ) : Type 0 where
   pub few : n ≤ mostRecords

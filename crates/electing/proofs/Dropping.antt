@@ -9,15 +9,21 @@ use mathlib.Core.List.{List, [], _∷_, _++_, append-assoc}
 use lib.ListN.{length, getD, set}
 use Rattle.pricelevel.specs.declared.Price.{Price}
 use Rattle.stop_terms.specs.Terms.{electedAt}
-use Rattle.book.specs.Words.{mostRecords, recordLength, storeLength, cell, entryAt}
+use Rattle.book.specs.Words.{cell, entryAt}
+use Rattle.book.specs.Sizes.{mostRecords, recordLength, storeLength}
 use Rattle.chains.proofs.Kept.{kept-trans, kept-entry}
 use Rattle.chains.proofs.Linking.{linked-length}
 use Rattle.chains.proofs.Names.{name-stands, head-injective}
-use Rattle.chains.specs.Chained.{Name, nameHead, nameLink, Chained, Kept, upd}
+use Rattle.chains.specs.Chained.{Chained, Kept, upd}
+use Rattle.book.specs.Chains.{startOf, nextOf}
+use Rattle.book.specs.declared.StoreChain.{StoreChain}
 use Rattle.chains.specs.Links.{Linked, putOut}
 use Rattle.chains.specs.Records.{Record}
-use Rattle.store_words.proofs.Search.{From, linked-from}
-use Rattle.electing.proofs.Fronts.{linkAfter, linkAfter-none, linkAfter-last, upd-same, second-linked, second-place, kept-second, chained-second}
+use Rattle.chains.proofs.Linking.{From, linked-from}
+use Rattle.electing.proofs.Fronts.{second-linked, second-place, kept-second, chained-second}
+use Rattle.chains.proofs.Names.{upd-same}
+use Rattle.chains.proofs.Linking.{wordAfter-end}
+use Rattle.chains.specs.Links.{wordAfter}
 use Rattle.electing.specs.Elected.{unelected}
 
 module _ (price : Price) (w : List ℕ) (i : ℕ) (l : List ℕ) where
@@ -32,27 +38,27 @@ module _ (price : Price) (w : List ℕ) (i : ℕ) (l : List ℕ) where
 ------------------------------------------------------------------------
 -- Along the chain a of ch
 
-module _ (n : ℕ) (a : Name) (price : Price) (w0 : List ℕ) (ch : Name → List ℕ) where
+module _ (n : ℕ) (a : StoreChain) (price : Price) (w0 : List ℕ) (ch : StoreChain → List ℕ) where
   pub record Pass (w : List ℕ) (p left : ℕ) : Type 0 where
     pub front : List ℕ
     pub rest : List ℕ
     pub chained : Chained n w (upd a (front ++ rest) ch)
-    pub place : p ≡ linkAfter (nameLink a) (nameHead a) front
+    pub place : p ≡ wordAfter (nextOf a) (startOf a) front
     pub split : unelected price w0 (ch a) ≡ front ++ unelected price w0 rest
     pub short : length rest ≤ left
 
-  pass-first : (p : ℕ) → p ≡ nameHead a → Chained n w0 ch → Pass w0 p n
+  pass-first : (p : ℕ) → p ≡ startOf a → Chained n w0 ch → Pass w0 p n
   pass-first p e h = record {
     front = [];
     rest = ch a;
     chained = rw (upd-same a (ch a) ch refl) h;
-    place = e ∙ sym (linkAfter-none (nameLink a) (nameHead a));
+    place = e;
     split = refl;
-    short = linked-length n (nameLink a) w0 (nameHead a) (ch a) (h .linked a);
+    short = linked-length n (nextOf a) w0 (startOf a) (ch a) (h .linked a);
   }
 
   module _ {w : List ℕ} {p left : ℕ} (s : Pass w p left) where
-    ahead : Linked n w (nameLink a) p (s .rest)
+    ahead : Linked n w (nextOf a) p (s .rest)
     ahead = rw (s .place) (second-linked ch a (s .front) (s .rest) (s .chained))
 
     pass-place : p < storeLength n
@@ -62,7 +68,7 @@ module _ (n : ℕ) (a : Name) (price : Price) (w0 : List ℕ) (ch : Name → Lis
     unfolding unelected
     pass-end z = go (s .rest) refl ahead
       where
-        go : (l : List ℕ) → s .rest ≡ l → Linked n w (nameLink a) p l → Chained n w (upd a (unelected price w0 (ch a)) ch)
+        go : (l : List ℕ) → s .rest ≡ l → Linked n w (nextOf a) p l → Chained n w (upd a (unelected price w0 (ch a)) ch)
         go [] e c = rw (s .split, e) (rw e at (s .chained))
         go (j ∷ l) e c = absurd (omega (arith, c .0, c .1))
 
@@ -71,8 +77,8 @@ module _ (n : ℕ) (a : Name) (price : Price) (w0 : List ℕ) (ch : Name → Lis
       abbrev i : ℕ
       i = getD w p 0
 
-      abbrev from : From n w (nameLink a) i (s .rest)
-      from = linked-from n w (nameLink a) p i (s .rest) refl ne ahead
+      abbrev from : From n w (nextOf a) i (s .rest)
+      from = linked-from n w (nextOf a) p i (s .rest) refl ne ahead
 
       pass-record : Record n w i
       pass-record = record { least = from .least; most = from .most; inside = s .chained .inside }
@@ -80,12 +86,12 @@ module _ (n : ℕ) (a : Name) (price : Price) (w0 : List ℕ) (ch : Name → Lis
       pass-left : 1 ≤ left
       pass-left = omega (arith, s .short, ap length (from .is))
 
-      pass-keep : electedAt (entryAt w0 i .terms) price ≡ false → Pass w (cell i (nameLink a)) (left - 1)
+      pass-keep : electedAt (entryAt w0 i .terms) price ≡ false → Pass w (cell i (nextOf a)) (left - 1)
       pass-keep e = record {
         front = s .front ++ (i ∷ []);
         rest = from .rest;
         chained = rw (append-assoc (s .front) (i ∷ []) (from .rest)) (rw (from .is) at (s .chained));
-        place = sym (linkAfter-last (nameLink a) (nameHead a) (s .front) i);
+        place = sym (wordAfter-end (nextOf a) (startOf a) (s .front) i);
         split =
             s .split ∙ ap (λ (l : List ℕ). s .front ++ unelected price w0 l) (from .is)
             ∙ ap (λ (l : List ℕ). s .front ++ l) (unelected-keep price w0 i (from .rest) e)
@@ -93,10 +99,10 @@ module _ (n : ℕ) (a : Name) (price : Price) (w0 : List ℕ) (ch : Name → Lis
         short = omega (arith, s .short, ap length (from .is));
       }
 
-      kept-drop : Kept n w (putOut w (nameLink a) i p)
+      kept-drop : Kept n w (putOut w (nextOf a) i p)
       kept-drop = rw (← s .place) at (kept-second ch a (s .front) (s .rest) (s .chained) i (from .rest) (from .is))
 
-      pass-drop : electedAt (entryAt w0 i .terms) price ≡ true → Pass (putOut w (nameLink a) i p) p (left - 1)
+      pass-drop : electedAt (entryAt w0 i .terms) price ≡ true → Pass (putOut w (nextOf a) i p) p (left - 1)
       pass-drop e = record {
         front = s .front;
         rest = from .rest;
@@ -113,16 +119,16 @@ module _ (n : ℕ) (a : Name) (price : Price) (w0 : List ℕ) (ch : Name → Lis
 
 -- along the chain that has this link and head, of chains that there are, and of all chains that the words have at the start
 pub record Passing (n : ℕ) (price : Price) (w0 : List ℕ) (link head : ℕ) (w : List ℕ) (p left : ℕ) : Type 0 where
-  pub name : Name
-  pub its-link : link ≡ nameLink name
-  pub its-head : head ≡ nameHead name
-  pub chains : Name → List ℕ
+  pub name : StoreChain
+  pub its-link : link ≡ nextOf name
+  pub its-head : head ≡ startOf name
+  pub chains : StoreChain → List ℕ
   pub chained : Chained n w0 chains
   pub kept : Kept n w0 w
-  pub passes : (a : Name) → head ≡ nameHead a → (ch : Name → List ℕ) → Chained n w0 ch → Pass n a price w0 ch w p left
+  pub passes : (a : StoreChain) → head ≡ startOf a → (ch : StoreChain → List ℕ) → Chained n w0 ch → Pass n a price w0 ch w p left
 
-pub passing-first : (n : ℕ) (price : Price) (w : List ℕ) (link head : ℕ) (a : Name) → link ≡ nameLink a → head ≡ nameHead a
-    → (ch : Name → List ℕ) → Chained n w ch → Passing n price w link head w head n
+pub passing-first : (n : ℕ) (price : Price) (w : List ℕ) (link head : ℕ) (a : StoreChain) → link ≡ nextOf a → head ≡ startOf a
+    → (ch : StoreChain → List ℕ) → Chained n w ch → Passing n price w link head w head n
 passing-first n price w link head a el eh ch h = record {
   name = a;
   its-link = el;
@@ -152,7 +158,7 @@ module _ {n : ℕ} {price : Price} {w0 : List ℕ} {link head : ℕ} {w : List �
     link-low = rw (v .its-link) (name-stands (v .name) .in-record);
   }
 
-  pub passing-end : getD w p 0 ≡ 0 → (a : Name) → head ≡ nameHead a → (ch : Name → List ℕ) → Chained n w0 ch
+  pub passing-end : getD w p 0 ≡ 0 → (a : StoreChain) → head ≡ startOf a → (ch : StoreChain → List ℕ) → Chained n w0 ch
       → Chained n w (upd a (unelected price w0 (ch a)) ch)
   passing-end z a e ch h = pass-end n a price w0 ch (v .passes a e ch h) z
 
@@ -164,8 +170,8 @@ module _ {n : ℕ} {price : Price} {w0 : List ℕ} {link head : ℕ} {w : List �
     passing-left = pass-left n (v .name) price w0 (v .chains) here ne
 
     module _ (at : ℕ) (is : at ≡ cell (getD w p 0) link) where
-      same-link : (a : Name) → head ≡ nameHead a → link ≡ nameLink a
-      same-link a e = v .its-link ∙ ap nameLink (head-injective (v .name) a (sym (v .its-head) ∙ e))
+      same-link : (a : StoreChain) → head ≡ startOf a → link ≡ nextOf a
+      same-link a e = v .its-link ∙ ap nextOf (head-injective (v .name) a (sym (v .its-head) ∙ e))
 
       same-test : {t : Bool} → electedAt (entryAt w (getD w p 0) .terms) price ≡ t → electedAt (entryAt w0 (getD w p 0) .terms) price ≡ t
       same-test e = rw (kept-entry n w0 w (v .kept) (getD w p 0) (passing-record .least)) at e

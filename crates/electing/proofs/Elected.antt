@@ -14,15 +14,15 @@ use Rattle.stop_terms.specs.Terms.{electedAt}
 use Rattle.book.proofs.Lists.{all-of}
 use Rattle.book.proofs.Lookup.{chain-in-book}
 use Rattle.book.proofs.Parting.{Part, never, Parted, parted, Met, Unmet, stops-apart, part-early, part-late}
-use Rattle.book.proofs.Steps.{elect, electedIn, vacatedBy, stays, takenOn}
-use Rattle.book.proofs.Validity.{Fits}
+use Rattle.book.specs.Steps.{elect, electedIn, vacatedBy, stays, takenOn}
+use Rattle.book.specs.Valid.{Fits}
 use Rattle.book.specs.Book.{Slot, vacant, held, Book, chainSide, Pending, sideOf, ofSide, pendingOn, chain, indices}
 use Rattle.book.specs.Evaluation.{leavingOn}
 use Rattle.book.specs.Words.{chainIndices}
 use Rattle.book.specs.declared.Chain.the-variants.{ByStop}
 use Rattle.book.specs.declared.StopEntry.{StopEntry}
 use Rattle.chains.proofs.Members.{has-here}
-use Rattle.form.proofs.Members.{Member}
+use Rattle.book.specs.Chains.{Member}
 use Rattle.pending_stops.proofs.ChainChanges.{chain-member}
 
 ------------------------------------------------------------------------
@@ -61,7 +61,7 @@ module _ (side : Side) (price : Price) where
 
   pub elected-parted : (b : Book) → Parted (Met side price) (Unmet side price)
       (electedIn side price b) (chain (ByStop side) (takenOn side price b .slots)) (chain (ByStop side) (b .slots))
-  unfolding electedIn takenOn chain chainSide
+  unfolding electedIn takenOn chain
   elected-parted b =
       parted (ByStop side) (Met side price) (Unmet side price) (stops-apart side price) (elect side price) (pendingOn side) (pendingOn side)
       (stays side price) 1 (b .slots) (all-of elect-part (b .slots))
@@ -133,7 +133,7 @@ pub record First (side : Side) (price : Price) (b : Book) (i : ℕ) : Type 0 whe
 
 pub some-elected : (side : Side) (price : Price) (b : Book) → Fits b → (p : Pending) (l : List Pending) → electedIn side price b ≡ p ∷ l
     → First side price b (p .index)
-unfolding indices chainSide
+unfolding indices
 some-elected side price b f p l e =
     let rest : List ℕ = indices l ++ chainIndices (ByStop side) (takenOn side price b) in
     let chain : chainIndices (ByStop side) b ≡ p .index ∷ rest = rw e at (elected-indices side price b) in

@@ -7,16 +7,20 @@ use mathlib.Core.List.{List}
 use lib.ListN.{length, getD, set}
 use Rattle.pricelevel.specs.declared.Price.{Price}
 use Rattle.pricelevel.specs.declared.Side.{Side}
-use Rattle.book.proofs.Steps.{electedIn, takenOn}
+use Rattle.book.specs.Steps.{electedIn, takenOn}
 use Rattle.book.specs.Book.{Book, pendingCount}
-use Rattle.book.specs.Words.{headerLength, chainIndices}
+use Rattle.book.specs.Words.{chainIndices}
+use Rattle.book.specs.Sizes.{headerLength}
 use Rattle.book.specs.declared.Chain.the-variants.{ByStop, ByWatermark}
 use Rattle.chains.proofs.Chained.{chained-set-header}
-use Rattle.chains.specs.Chained.{Name, of, Chained, Kept, upd}
-use Rattle.pending_stops.proofs.Holding.{chainsOf, stored-holds, holds-stored}
+use Rattle.chains.specs.Chained.{Chained, Kept, upd}
+use Rattle.book.specs.declared.StoreChain.{StoreChain}
+use Rattle.book.specs.declared.StoreChain.the-variants.{Ordered}
+use Rattle.pending_stops.proofs.Holding.{stored-holds, holds-stored}
+use Rattle.book.specs.Chains.{chainsOf}
 use Rattle.pending_stops.proofs.Storing.{contents-kept, contents-numbers, contents-count, contents-entry}
 use Rattle.pending_stops.specs.Stored.{Stored}
-use Rattle.electing.proofs.Fronts.{upd-same}
+use Rattle.chains.proofs.Names.{upd-same}
 use Rattle.electing.proofs.Heads.{none-first}
 use Rattle.electing.proofs.Staying.{taken-none, taken-again}
 use Rattle.electing.proofs.Taking.{taken-count}
@@ -28,12 +32,12 @@ module _ (side : Side) (price : Price) {n : ℕ} {w : List ℕ} {b : Book} {r : 
   pub election-none : firstElected side price w ≡ 0 → (0 ≡ length (electedIn side price b)) × Stored n w (takenOn side price b) r
   election-none z =
       let h = stored-holds st in
-      let none = none-first side price b (st .fits) (h .contents) (h .chained .linked (of (ByStop side))) z in
+      let none = none-first side price b (st .fits) (h .contents) (h .chained .linked (Ordered (ByStop side))) z in
       (sym (ap length none), rw (taken-none side price b none) st)
 
   module _ {w1 : List ℕ} (k1 : Kept n w w1)
-      (u1 : (ch : Name → List ℕ) → Chained n w ch
-      → Chained n w1 (upd (of (ByWatermark side)) (unelected price w (ch (of (ByWatermark side)))) ch)) where
+      (u1 : (ch : StoreChain → List ℕ) → Chained n w ch
+      → Chained n w1 (upd (Ordered (ByWatermark side)) (unelected price w (ch (Ordered (ByWatermark side)))) ch)) where
     -- the elected have left the watermark chain
     pub election-dropped : Dropped side price n w1 (pendingCount (b .slots)) b r
     election-dropped =
@@ -71,8 +75,8 @@ module _ (side : Side) (price : Price) {n : ℕ} {w : List ℕ} {b : Book} {r : 
 
       after-chained : Chained n w2 (chainsOf after)
       after-chained =
-          subst (λ (ch : Name → List ℕ). Chained n w2 ch)
-          (upd-same (of (ByWatermark side)) _ (chainsOf after) (ap (chainIndices (ByWatermark side)) (taken-again side price b))) (left .chained)
+          subst (λ (ch : StoreChain → List ℕ). Chained n w2 ch)
+          (upd-same (Ordered (ByWatermark side)) _ (chainsOf after) (ap (chainIndices (ByWatermark side)) (taken-again side price b))) (left .chained)
 
       pub election-stored : (m ≡ length (electedIn side price b)) × Stored n (set w2 1 (getD w2 1 0 - m)) after r
       election-stored = (

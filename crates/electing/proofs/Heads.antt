@@ -12,20 +12,21 @@ use lib.ListN.{getD}
 use Rattle.pricelevel.specs.declared.Price.{Price}
 use Rattle.pricelevel.specs.declared.Side.{Side}
 use Rattle.stop_terms.specs.Terms.{electedAt}
-use Rattle.book.proofs.Steps.{electedIn}
-use Rattle.book.proofs.Validity.{Fits}
+use Rattle.book.specs.Steps.{electedIn}
+use Rattle.book.specs.Valid.{Fits}
 use Rattle.book.specs.Book.{Book, chainSide}
 use Rattle.book.specs.Words.{chainIndices, entryAt}
 use Rattle.book.specs.declared.Chain.the-variants.{ByStop}
 use Rattle.chains.proofs.Members.{has-here}
-use Rattle.chains.specs.Chained.{Name, nameHead, nameLink, Chained}
-use Rattle.chains.specs.Links.{headOf, linkOf, Linked}
+use Rattle.chains.specs.Chained.{Chained}
+use Rattle.book.specs.Chains.{startOf, nextOf, headOf, linkOf, Member}
+use Rattle.book.specs.declared.StoreChain.{StoreChain}
+use Rattle.chains.specs.Links.{Linked}
 use Rattle.chains.specs.Records.{Record}
-use Rattle.form.proofs.Members.{Member}
 use Rattle.pending_stops.proofs.ChainChanges.{chain-member}
-use Rattle.pending_stops.proofs.Holding.{Contents}
+use Rattle.pending_stops.specs.Stored.{Contents}
 use Rattle.pending_stops.proofs.Storing.{contents-entry}
-use Rattle.store_words.proofs.Search.{linked-from}
+use Rattle.chains.proofs.Linking.{linked-from}
 use Rattle.electing.proofs.Elected.{First, first-unelected, none-elected}
 use Rattle.electing.specs.Elected.{electedOr0, firstElected}
 
@@ -46,10 +47,10 @@ module _ (price : Price) (w : List ℕ) (i : ℕ) where
   electedOr0-none z = cases (electedAt (entryAt w i .terms) price) (λ e. electedOr0-yes e ∙ z) electedOr0-no
 
 -- what the word at the head of a chain names is a record
-pub head-record : (n : ℕ) (w : List ℕ) (ch : Name → List ℕ) → Chained n w ch → (a : Name) (p : ℕ) → p ≡ nameHead a → getD w p 0 ≢ 0
+pub head-record : (n : ℕ) (w : List ℕ) (ch : StoreChain → List ℕ) → Chained n w ch → (a : StoreChain) (p : ℕ) → p ≡ startOf a → getD w p 0 ≢ 0
     → Record n w (getD w p 0)
 head-record n w ch h a p e ne =
-    let from = linked-from n w (nameLink a) (nameHead a) _ (ch a) refl (rw e at ne) (h .linked a) in
+    let from = linked-from n w (nextOf a) (startOf a) _ (ch a) refl (rw e at ne) (h .linked a) in
     rw e (record { least = from .least; most = from .most; inside = h .inside })
 
 module _ (side : Side) (price : Price) (w : List ℕ) (p : ℕ) (e : p ≡ headOf (ByStop side)) where
@@ -75,7 +76,6 @@ module _ (side : Side) (price : Price) (b : Book) (f : Fits b) {n : ℕ} {w r : 
   head = getD w (headOf (ByStop side)) 0
 
   head-member : (rest : List ℕ) → chainIndices (ByStop side) b ≡ head ∷ rest → Member side (b .slots) head
-  unfolding chainSide
   head-member rest e = chain-member (ByStop side) b f head (rw e (has-here head rest))
 
   head-entry : (m : Member side (b .slots) head) → entryAt w head ≡ m .entry

@@ -13,142 +13,109 @@ use lib.Seq.{getD-set-same, getD-set-other, sets}
 use Rattle.pricelevel.specs.declared.Price.{Price}
 use Rattle.pricelevel.specs.declared.Side.{Side}
 use Rattle.book.proofs.Operations.{vacated-valid, vacated-fits}
-use Rattle.book.proofs.Steps.{takenOn}
+use Rattle.book.proofs.Places.{slot-long, withLinks-watermark}
+use Rattle.book.specs.Steps.{takenOn}
 use Rattle.book.specs.Book.{Slot, vacant, Book, chainSide}
 use Rattle.book.specs.Store.{vacated}
-use Rattle.book.specs.Words.{recordLength, chainIndices, cell, recordWord}
+use Rattle.book.specs.Words.{chainIndices, cell, recordWord, dataWords}
+use Rattle.book.specs.Sizes.{recordLength, dataLength, nextByWatermark}
 use Rattle.book.specs.declared.Chain.{Chain}
 use Rattle.book.specs.declared.Chain.the-variants.{ByStop, ByWatermark}
 use Rattle.chains.proofs.Data.{ready-sets, sets-word, sets-word-other, sets-header, sets-beyond}
 use Rattle.chains.proofs.Members.{has-here}
-use Rattle.chains.proofs.Names.{free-group, of-free, stop-watermark, upd-here, upd-other, upd-all}
-use Rattle.chains.specs.Chained.{Name, of, free, Chained, Kept, Ready, upd}
+use Rattle.chains.proofs.Names.{free-group, of-free, stop-watermark, upd-here, upd-other, upd-all, other-side}
+use Rattle.chains.specs.Chained.{Chained, Kept, Ready, upd}
+use Rattle.book.specs.Chains.{headOf, linkOf, Member, chainsOf}
+use Rattle.book.specs.declared.StoreChain.{StoreChain}
+use Rattle.book.specs.declared.StoreChain.the-variants.{Ordered, Free}
 use Rattle.chains.specs.Indices.{remove, has}
-use Rattle.chains.specs.Links.{headOf, linkOf, Linked}
-use Rattle.chains.specs.Records.{dataLength, Record}
-use Rattle.form.proofs.Members.{Member}
+use Rattle.chains.specs.Links.{Linked}
+use Rattle.chains.specs.Records.{Record}
 use Rattle.pending_stops.proofs.ChainChanges.{chain-member, vacated-absent, chain-out, chain-other}
-use Rattle.pending_stops.proofs.Holding.{Contents, chainsOf}
+use Rattle.pending_stops.specs.Stored.{Contents}
 use Rattle.pending_stops.proofs.Placing.{chainsWithout}
-use Rattle.pending_stops.proofs.Storing.{contents-kept}
-use Rattle.pending_stops.specs.Stored.{dataWords}
-use Rattle.store_words.specs.Empty.{freeWords}
+use Rattle.pending_stops.proofs.Storing.{recordOf, recordOf-length, contents-kept, contents-written}
 use Rattle.electing.proofs.Elected.{First}
 use Rattle.electing.proofs.Staying.{taken-fits}
 use Rattle.electing.proofs.Taking.{first-in-book, taken-vacant, taken-step}
 use Rattle.electing.specs.Elected.{droppedChains, Dropped}
 
 ------------------------------------------------------------------------
--- The words of a free record
-
-freeWords-few : length (freeWords 0) ≤ recordLength
-unfolding freeWords
-freeWords-few = omega arith
-
-contents-free : {n : ℕ} {w : List ℕ} {count next tick : ℕ} {ss : List Slot} {r : List ℕ} → Contents n w count next tick ss r → (i : ℕ) → Record n w i
-    → Contents n (sets w (cell i 0) (freeWords 0)) count next tick (set ss (i - 1) vacant) r
-unfolding freeWords dataWords
-contents-free {n} {w} {ss = ss} h i at = record {
-  records = length-set ss (i - 1) vacant ∙ h .records;
-  word0 = header 0 (omega arith) ∙ h .word0;
-  word1 = header 1 (omega arith) ∙ h .word1;
-  word2 = header 2 (omega arith) ∙ h .word2;
-  word3 = header 3 (omega arith) ∙ h .word3;
-  words = λ j k low high l. cases (eqb j i)
-      (λ e.
-      rw (eqb-true j i e, getD-set-same ss (i - 1) vacant vacant (omega (arith, at .least, at .most, h .records)))
-      (sets-word n w i (freeWords 0) freeWords-few at k (omega arith) ∙ List·getD-append (replicate dataLength 0) (0 ∷ 0 ∷ []) 0 k l))
-      (λ e.
-      let ne = eqb-false j i e in
-      rw (getD-set-other ss (i - 1) (j - 1) vacant vacant (λ q. ne (omega (arith, at .least))))
-      (sets-word-other n w i (freeWords 0) freeWords-few j k (at .least) low (omega arith) (λ q. absurd (ne q)) ∙ h .words j k low high l));
-  beyond = sets-beyond n w i (freeWords 0) freeWords-few (at .least) (at .most) ∙ h .beyond;
-}
-  where
-    header : (k : ℕ) → k < 4 → getD (sets w (cell i 0) (freeWords 0)) k 0 ≡ getD w k 0
-    header k l = sets-header n w i (freeWords 0) freeWords-few k (omega arith)
-
-------------------------------------------------------------------------
 -- The chains
 
 -- those of a book without record i, but for the watermark chain of a side, which the elected have left
-abbrev pub droppedWithout : Side → Price → ℕ → Book → Name → List ℕ
+abbrev pub droppedWithout : Side → Price → ℕ → Book → StoreChain → List ℕ
 droppedWithout side price i b =
-    upd (of (ByWatermark side)) (chainIndices (ByWatermark side) (takenOn side price (vacated i b))) (chainsWithout i b)
+    upd (Ordered (ByWatermark side)) (chainIndices (ByWatermark side) (takenOn side price (vacated i b))) (chainsWithout i b)
 
 -- the chains of a side are two
-other-side : (side : Side) (c : Chain) → of (ByStop side) ≢ of c → of (ByWatermark side) ≢ of c → chainSide c ≢ side
-unfolding chainSide
-other-side side (ByStop d) stops watermarks e = stops (rw e refl)
-other-side side (ByWatermark d) stops watermarks e = watermarks (rw e refl)
-
-watermark-stop : (side : Side) → of (ByWatermark side) ≢ of (ByStop side)
+watermark-stop : (side : Side) → Ordered (ByWatermark side) ≢ Ordered (ByStop side)
 watermark-stop side e = stop-watermark side (sym e)
 
 -- record i becomes the first of the free chain
-freed-chains : (side : Side) (price : Price) (i : ℕ) (b : Book) (a : Name)
-    → upd free (i ∷ droppedWithout side price i b free) (droppedWithout side price i b) a ≡ droppedChains side price (vacated i b) a
+freed-chains : (side : Side) (price : Price) (i : ℕ) (b : Book) (a : StoreChain)
+    → upd Free (i ∷ droppedWithout side price i b Free) (droppedWithout side price i b) a ≡ droppedChains side price (vacated i b) a
 unfolding vacated
 freed-chains side price i b =
-    upd-all (λ a l. l ≡ droppedChains side price (vacated i b) a) free _ (droppedWithout side price i b)
-    (ap (λ (l : List ℕ). i ∷ l) (upd-other (of (ByWatermark side)) free _ (chainsWithout i b) (of-free (ByWatermark side)))
-    ∙ sym (upd-other (of (ByWatermark side)) free _ (chainsOf (vacated i b)) (of-free (ByWatermark side))))
-    (upd-all (λ a l. free ≢ a → l ≡ droppedChains side price (vacated i b) a) (of (ByWatermark side)) _ (chainsWithout i b)
-    (λ nf. sym (upd-here (of (ByWatermark side)) _ (chainsOf (vacated i b))))
-    (λ a nw nf. others a nf ∙ sym (upd-other (of (ByWatermark side)) a _ (chainsOf (vacated i b)) nw)))
+    upd-all (λ a l. l ≡ droppedChains side price (vacated i b) a) Free _ (droppedWithout side price i b)
+    (ap (λ (l : List ℕ). i ∷ l) (upd-other (Ordered (ByWatermark side)) Free _ (chainsWithout i b) (of-free (ByWatermark side)))
+    ∙ sym (upd-other (Ordered (ByWatermark side)) Free _ (chainsOf (vacated i b)) (of-free (ByWatermark side))))
+    (upd-all (λ a l. Free ≢ a → l ≡ droppedChains side price (vacated i b) a) (Ordered (ByWatermark side)) _ (chainsWithout i b)
+    (λ nf. sym (upd-here (Ordered (ByWatermark side)) _ (chainsOf (vacated i b))))
+    (λ a nw nf. others a nf ∙ sym (upd-other (Ordered (ByWatermark side)) a _ (chainsOf (vacated i b)) nw)))
   where
-    others : (a : Name) → free ≢ a → chainsWithout i b a ≡ chainsOf (vacated i b) a
-    others (of c) nf = refl
-    others free nf = absurd (nf refl)
+    others : (a : StoreChain) → Free ≢ a → chainsWithout i b a ≡ chainsOf (vacated i b) a
+    others (Ordered c) nf = refl
+    others Free nf = absurd (nf refl)
 
 ------------------------------------------------------------------------
 -- The steps
 
 -- what taking record i out of a chain does to them all
-abbrev pub TakenOut : ℕ → List ℕ → List ℕ → Name → ℕ → Type 0
-TakenOut n w v a i = (ch : Name → List ℕ) → Chained n w ch → T (has i (ch a)) → Chained n v (upd a (remove i (ch a)) ch)
+abbrev pub TakenOut : ℕ → List ℕ → List ℕ → StoreChain → ℕ → Type 0
+TakenOut n w v a i = (ch : StoreChain → List ℕ) → Chained n w ch → T (has i (ch a)) → Chained n v (upd a (remove i (ch a)) ch)
 
 -- and putting it in front of the free chain
 abbrev pub Pushed : ℕ → List ℕ → List ℕ → ℕ → Type 0
-Pushed n w v i = (ch : Name → List ℕ) → Ready n w ch i → recordWord w i 10 ≡ 0 → Chained n v (upd free (i ∷ ch free) ch)
+Pushed n w v i = (ch : StoreChain → List ℕ) → Ready n w ch i → recordWord w i nextByWatermark ≡ 0 → Chained n v (upd Free (i ∷ ch Free) ch)
 
 module _ {side : Side} {price : Price} {n : ℕ} {w : List ℕ} {count : ℕ} {b : Book} {r : List ℕ} (d : Dropped side price n w count b r) where
-  stop-chain : droppedChains side price b (of (ByStop side)) ≡ chainIndices (ByStop side) b
-  stop-chain = upd-other (of (ByWatermark side)) (of (ByStop side)) _ (chainsOf b) (watermark-stop side)
+  stop-chain : droppedChains side price b (Ordered (ByStop side)) ≡ chainIndices (ByStop side) b
+  stop-chain = upd-other (Ordered (ByWatermark side)) (Ordered (ByStop side)) _ (chainsOf b) (watermark-stop side)
 
   pub dropped-linked : Linked n w (linkOf (ByStop side)) (headOf (ByStop side)) (chainIndices (ByStop side) b)
-  dropped-linked = rw stop-chain at (d .chained .linked (of (ByStop side)))
+  dropped-linked = rw stop-chain at (d .chained .linked (Ordered (ByStop side)))
 
   module _ {i : ℕ} (q : First side price b i) where
     abbrev m : Member side (b .slots) i
     m = q .member
 
-    pub in-stops : T (has i (droppedChains side price b (of (ByStop side))))
+    pub in-stops : T (has i (droppedChains side price b (Ordered (ByStop side))))
     in-stops = rw (stop-chain, q .first) (has-here i (q .rest))
 
-    module _ (w1 : List ℕ) (k1 : Kept n w w1) (u1 : TakenOut n w w1 (of (ByStop side)) i) where
-      chains1 : (a : Name) → upd (of (ByStop side)) (remove i (droppedChains side price b (of (ByStop side)))) (droppedChains side price b) a
+    module _ (w1 : List ℕ) (k1 : Kept n w w1) (u1 : TakenOut n w w1 (Ordered (ByStop side)) i) where
+      chains1 : (a : StoreChain) → upd (Ordered (ByStop side)) (remove i (droppedChains side price b (Ordered (ByStop side)))) (droppedChains side price b) a
           ≡ droppedWithout side price i b a
       chains1 =
-          upd-all (λ a l. l ≡ droppedWithout side price i b a) (of (ByStop side)) _ (droppedChains side price b)
+          upd-all (λ a l. l ≡ droppedWithout side price i b a) (Ordered (ByStop side)) _ (droppedChains side price b)
           (ap (remove i) stop-chain ∙ sym (chain-out (ByStop side) b (d .valid) (d .fits) i (m .from))
-          ∙ sym (upd-other (of (ByWatermark side)) (of (ByStop side)) _ (chainsWithout i b) (watermark-stop side)))
-          (upd-all (λ a l. of (ByStop side) ≢ a → l ≡ droppedWithout side price i b a) (of (ByWatermark side)) _ (chainsOf b)
+          ∙ sym (upd-other (Ordered (ByWatermark side)) (Ordered (ByStop side)) _ (chainsWithout i b) (watermark-stop side)))
+          (upd-all (λ a l. Ordered (ByStop side) ≢ a → l ≡ droppedWithout side price i b a) (Ordered (ByWatermark side)) _ (chainsOf b)
           (λ ns. ap (chainIndices (ByWatermark side)) (sym (taken-step (d .valid) (d .fits) q))
-          ∙ sym (upd-here (of (ByWatermark side)) _ (chainsWithout i b)))
-          (λ a nw ns. others a nw ns ∙ sym (upd-other (of (ByWatermark side)) a _ (chainsWithout i b) nw)))
+          ∙ sym (upd-here (Ordered (ByWatermark side)) _ (chainsWithout i b)))
+          (λ a nw ns. others a nw ns ∙ sym (upd-other (Ordered (ByWatermark side)) a _ (chainsWithout i b) nw)))
         where
-          others : (a : Name) → of (ByWatermark side) ≢ a → of (ByStop side) ≢ a → chainsOf b a ≡ chainsWithout i b a
-          others (of c) nw ns =
+          others : (a : StoreChain) → Ordered (ByWatermark side) ≢ a → Ordered (ByStop side) ≢ a → chainsOf b a ≡ chainsWithout i b a
+          others (Ordered c) nw ns =
               sym (chain-other c b (d .valid) (d .fits) i (m .from) (m .entry) (m .there) (λ e. other-side side c ns nw (e ∙ sym (m .of-side))))
-          others free nw ns = refl
+          others Free nw ns = refl
 
       ready1 : Ready n w1 (droppedWithout side price i b) i
       ready1 = record {
-        chained = subst (λ (ch : Name → List ℕ). Chained n w1 ch) (fun-ext chains1) (u1 (droppedChains side price b) (d .chained) in-stops);
+        chained = subst (λ (ch : StoreChain → List ℕ). Chained n w1 ch) (fun-ext chains1) (u1 (droppedChains side price b) (d .chained) in-stops);
         least = m .from;
         most = rw (d .contents .records) at (m .to);
-        out = upd-all (λ a l. T (has i l) → ⊥) (of (ByWatermark side)) _ (chainsWithout i b) gone others;
+        out = upd-all (λ a l. T (has i l) → ⊥) (Ordered (ByWatermark side)) _ (chainsWithout i b) gone others;
       }
         where
           gone : T (has i (chainIndices (ByWatermark side) (takenOn side price (vacated i b)))) → ⊥
@@ -159,29 +126,30 @@ module _ {side : Side} {price : Price} {n : ℕ} {w : List ℕ} {count : ℕ} {b
               let z : _≡_ {A = ℕ} 0 1 = cc in
               omega arith
 
-          others : (a : Name) → of (ByWatermark side) ≢ a → T (has i (chainsWithout i b a)) → ⊥
-          others (of c) nw t = vacated-absent c b (d .fits) i t
-          others free nw t =
-              d .chained .apart (of (ByStop side)) free (λ g. of-free (ByStop side) (free-group (of (ByStop side)) g)) i in-stops
-              (rw (upd-other (of (ByWatermark side)) free (chainIndices (ByWatermark side) (takenOn side price b)) (chainsOf b) nw) t)
+          others : (a : StoreChain) → Ordered (ByWatermark side) ≢ a → T (has i (chainsWithout i b a)) → ⊥
+          others (Ordered c) nw t = vacated-absent c b (d .fits) i t
+          others Free nw t =
+              d .chained .apart (Ordered (ByStop side)) Free (λ g. of-free (ByStop side) (free-group (Ordered (ByStop side)) g)) i in-stops
+              (rw (upd-other (Ordered (ByWatermark side)) Free (chainIndices (ByWatermark side) (takenOn side price b)) (chainsOf b) nw) t)
 
       pub record1 : Record n w1 i
       record1 = record { least = ready1 .least; most = ready1 .most; inside = ready1 .chained .inside }
 
-      module _ (w2 : List ℕ) (e2 : w2 ≡ sets w1 (cell i 0) (freeWords 0)) where
+      module _ (w2 : List ℕ) (e2 : w2 ≡ sets w1 (cell i 0) (recordOf vacant 0 0)) where
         pub ready2 : Ready n w2 (droppedWithout side price i b) i
-        ready2 = rw e2 (ready-sets n w1 (droppedWithout side price i b) i (freeWords 0) freeWords-few ready1)
+        ready2 = rw e2 (ready-sets n w1 (droppedWithout side price i b) i (recordOf vacant 0 0) (omega (arith, recordOf-length vacant 0 0)) ready1)
 
-        pub blank2 : recordWord w2 i 10 ≡ 0
-        unfolding freeWords
-        blank2 = rw e2 (sets-word n w1 i (freeWords 0) freeWords-few record1 10 (omega arith))
+        pub blank2 : recordWord w2 i nextByWatermark ≡ 0
+        blank2 =
+            rw e2 (sets-word n w1 i (recordOf vacant 0 0) (omega (arith, recordOf-length vacant 0 0)) record1 nextByWatermark (omega (arith, recordOf-length vacant 0 0))
+            ∙ withLinks-watermark (dataWords vacant) (slot-long vacant) 0 0)
 
         pub left-dropped : (w3 : List ℕ) → Kept n w2 w3 → Pushed n w2 w3 i → Dropped side price n w3 count (vacated i b) r
         unfolding vacated
         left-dropped w3 k3 p3 = record {
           valid = vacated-valid _ b (d .valid) (first-in-book (d .valid) (d .fits) q);
           fits = vacated-fits i b (d .fits);
-          contents = contents-kept (rw (← e2) at (contents-free (contents-kept (d .contents) w1 k1) i record1)) w3 k3;
-          chained = subst (λ (ch : Name → List ℕ). Chained n w3 ch) (fun-ext (freed-chains side price i b))
+          contents = contents-kept (rw (← e2) at (contents-written (contents-kept (d .contents) w1 k1) i record1 vacant 0 0)) w3 k3;
+          chained = subst (λ (ch : StoreChain → List ℕ). Chained n w3 ch) (fun-ext (freed-chains side price i b))
               (p3 (droppedWithout side price i b) ready2 blank2);
         }

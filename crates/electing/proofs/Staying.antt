@@ -11,17 +11,18 @@ use Rattle.pricelevel.specs.declared.Price.{Price}
 use Rattle.pricelevel.specs.declared.Side.{Side}
 use Rattle.pricelevel.specs.declared.Side.the-variants.{Buy, Sell}
 use Rattle.stop_terms.specs.Terms.{electedAt}
-use Rattle.book.proofs.Counting.{length-sort}
-use Rattle.book.proofs.Lists.{All, all-of, all-map, all-getD, all-mapped, map-agree}
+use Rattle.book.proofs.Sorting.{sortBy-length}
+use Rattle.book.proofs.Lists.{all-of, all-map, all-getD, all-mapped, map-agree}
 use Rattle.book.proofs.Points.{gather-none}
-use Rattle.book.proofs.Steps.{elect, electedIn, vacatedBy, stays, takenOn}
-use Rattle.book.proofs.Validity.{SlotFits, Fits}
-use Rattle.book.specs.Book.{Slot, vacant, held, Book, Pending, sideOf, ofSide, withIndex, gather, sort}
+use Rattle.book.specs.Steps.{elect, electedIn, vacatedBy, stays, takenOn}
+use Rattle.book.specs.Valid.{SlotFits, Fits}
+use Rattle.book.specs.Book.{Slot, vacant, held, Book, Pending, sideOf, ofSide, withIndex, gather, sort, earlierIn}
 use Rattle.book.specs.Evaluation.{leavingOn, freed}
 use Rattle.book.specs.declared.Chain.{Chain}
 use Rattle.book.specs.declared.Chain.the-variants.{ByStop}
 use Rattle.book.specs.declared.StopEntry.{StopEntry}
-use Rattle.form.proofs.Members.{Member}
+use Rattle.book.specs.Chains.{Member}
+use Rattle.book.specs.Lists.{sortBy, All}
 
 ------------------------------------------------------------------------
 -- Nothing gathered
@@ -38,7 +39,7 @@ gather-empty choice i (s ∷ ss) e = go (choice s) refl e (gather-empty choice (
 
 sort-empty : (c : Chain) (l : List Pending) → sort c l ≡ [] → l ≡ []
 sort-empty c [] e = refl
-sort-empty c (p ∷ l) e = absurd (omega (arith, length-sort c (p ∷ l), ap length e))
+sort-empty c (p ∷ l) e = absurd (omega (arith, sortBy-length (earlierIn c) (p ∷ l), ap length e))
 
 ------------------------------------------------------------------------
 -- One record
@@ -108,7 +109,7 @@ module _ (side : Side) (price : Price) where
 
   -- and nothing a second time
   pub taken-again : (b : Book) → takenOn side price (takenOn side price b) ≡ takenOn side price b
-  unfolding takenOn electedIn sort
+  unfolding takenOn electedIn sortBy
   taken-again b =
       let none : All (λ s. elect side price s ≡ none) (map (stays side price) (b .slots)) =
       all-mapped (λ s. Unit {0}) _ (stays side price) (λ s h. stays-unelected s) (b .slots) (all-of (λ s. tt) (b .slots)) in

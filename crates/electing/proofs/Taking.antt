@@ -9,8 +9,8 @@ use Rattle.pricelevel.specs.declared.Price.{Price}
 use Rattle.pricelevel.specs.declared.Side.{Side}
 use Rattle.book.proofs.Operations.{vacated-valid, vacated-fits, vacated-count}
 use Rattle.book.proofs.Lookup.{InBook}
-use Rattle.book.proofs.Steps.{elect, electedIn, vacatedBy, stays, takenOn}
-use Rattle.book.proofs.Validity.{Valid, Fits}
+use Rattle.book.specs.Steps.{elect, electedIn, vacatedBy, stays, takenOn}
+use Rattle.book.specs.Valid.{Valid, Fits}
 use Rattle.book.specs.Book.{vacant, Book, Pending, indices, pendingCount}
 use Rattle.book.specs.Evaluation.{freed}
 use Rattle.book.specs.Store.{vacated}
@@ -20,7 +20,7 @@ use Rattle.chains.proofs.Linking.{linked-length}
 use Rattle.chains.proofs.Members.{remove-here}
 use Rattle.chains.specs.Indices.{remove}
 use Rattle.chains.specs.Links.{Linked}
-use Rattle.form.proofs.Members.{Member}
+use Rattle.book.specs.Chains.{Member}
 use Rattle.pending_stops.proofs.ChainChanges.{chain-out}
 use Rattle.pending_stops.proofs.Placing.{chainIndices-slots}
 use Rattle.electing.proofs.Elected.{elected-indices, First, first-elected, some-elected}

@@ -10,16 +10,19 @@ use lib.ListN.{length}
 use lib.Seq.{sets, length-sets}
 use Rattle.pricelevel.specs.declared.Price.{Price}
 use Rattle.pricelevel.specs.declared.Side.{Side}
-use Rattle.book.proofs.Steps.{electedIn, takenOn}
-use Rattle.book.specs.Book.{Book}
+use Rattle.book.specs.Steps.{electedIn, takenOn}
+use Rattle.book.specs.Book.{Book, vacant}
 use Rattle.book.specs.Store.{vacated}
-use Rattle.book.specs.Words.{mostRecords, cell, recordWord}
+use Rattle.book.specs.Words.{cell, recordWord}
+use Rattle.book.specs.Sizes.{mostRecords, nextByWatermark}
 use Rattle.book.specs.declared.Chain.the-variants.{ByStop}
-use Rattle.chains.specs.Chained.{Name, of, Chained, Kept, Ready}
+use Rattle.chains.specs.Chained.{Chained, Kept, Ready}
+use Rattle.book.specs.Chains.{headOf, linkOf}
+use Rattle.book.specs.declared.StoreChain.{StoreChain}
+use Rattle.book.specs.declared.StoreChain.the-variants.{Ordered}
 use Rattle.chains.specs.Indices.{has}
-use Rattle.chains.specs.Links.{headOf, linkOf}
 use Rattle.chains.specs.Records.{Record}
-use Rattle.store_words.specs.Empty.{freeWords}
+use Rattle.pending_stops.proofs.Storing.{recordOf}
 use Rattle.electing.proofs.Elected.{First}
 use Rattle.electing.proofs.Heads.{none-first, some-first}
 use Rattle.electing.proofs.Leaving.{droppedWithout, TakenOut, Pushed, dropped-linked, in-stops, record1, ready2, blank2, left-dropped}
@@ -61,7 +64,7 @@ module _ {side : Side} {price : Price} {n : ℕ} {w0 w : List ℕ} {m : ℕ} (v 
   abbrev now : Turn side price n (v .count) (v .book) (v .beyond) w m
   now = v .turns (v .book) (v .beyond) (v .count) (v .start)
 
-  pub turns-chained : (ch : Name → List ℕ) × Chained n w ch
+  pub turns-chained : (ch : StoreChain → List ℕ) × Chained n w ch
   turns-chained = (droppedChains side price (now .book), now .dropped .chained)
 
   pub turns-end : firstElected side price w ≡ 0 → (b : Book) (r : List ℕ) (count : ℕ) → Dropped side price n w0 count b r
@@ -85,15 +88,15 @@ module _ {side : Side} {price : Price} {n : ℕ} {w0 w : List ℕ} {m : ℕ} (v 
     pub turns-below : (m < n) × (n ≤ mostRecords)
     turns-below = (omega (arith, now .taken, now .few, fewer now), now .dropped .chained .inside .few)
 
-    pub turns-out : (ch : Name → List ℕ) × Chained n w ch × T (has i (ch (of (ByStop side))))
+    pub turns-out : (ch : StoreChain → List ℕ) × Chained n w ch × T (has i (ch (Ordered (ByStop side))))
     turns-out = (droppedChains side price (now .book), now .dropped .chained, in-stops (now .dropped) (first now))
 
-    module _ {w1 : List ℕ} (k1 : Kept n w w1) (u1 : TakenOut n w w1 (of (ByStop side)) i) where
+    module _ {w1 : List ℕ} (k1 : Kept n w w1) (u1 : TakenOut n w w1 (Ordered (ByStop side)) i) where
       pub turns-record : Record n w1 i
       turns-record = record1 (now .dropped) (first now) w1 k1 u1
 
-      module _ {w2 : List ℕ} (e2 : w2 ≡ sets w1 (cell i 0) (freeWords 0)) where
-        pub turns-ready : (ch : Name → List ℕ) × Ready n w2 ch i × (recordWord w2 i 10 ≡ 0)
+      module _ {w2 : List ℕ} (e2 : w2 ≡ sets w1 (cell i 0) (recordOf vacant 0 0)) where
+        pub turns-ready : (ch : StoreChain → List ℕ) × Ready n w2 ch i × (recordWord w2 i nextByWatermark ≡ 0)
         turns-ready = (
           droppedWithout side price i (now .book),
           ready2 (now .dropped) (first now) w1 k1 u1 w2 e2,

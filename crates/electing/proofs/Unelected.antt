@@ -12,15 +12,15 @@ use lib.Seq.{getD-set-same, getD-set-other}
 use Rattle.pricelevel.specs.declared.Price.{Price}
 use Rattle.pricelevel.specs.declared.Side.{Side}
 use Rattle.stop_terms.specs.Terms.{electedAt}
-use Rattle.book.proofs.Steps.{electedIn, takenOn}
-use Rattle.book.proofs.Validity.{Valid, Fits}
+use Rattle.book.specs.Steps.{electedIn, takenOn}
+use Rattle.book.specs.Valid.{Valid, Fits}
 use Rattle.book.specs.Book.{Slot, vacant, held, Book, chainSide}
 use Rattle.book.specs.Store.{vacated}
 use Rattle.book.specs.Words.{chainIndices, entryAt}
 use Rattle.book.specs.declared.Chain.the-variants.{ByWatermark}
 use Rattle.chains.proofs.Members.{has-here, has-there}
 use Rattle.chains.specs.Indices.{remove, has}
-use Rattle.form.proofs.Members.{Member}
+use Rattle.book.specs.Chains.{Member}
 use Rattle.pending_stops.proofs.ChainChanges.{chain-member, chain-out}
 use Rattle.electing.proofs.Elected.{First}
 use Rattle.electing.proofs.Staying.{taken-none, none-member}
@@ -64,7 +64,6 @@ entries-vacated side w b i h j m =
 module _ (side : Side) (price : Price) (w : List ℕ) where
   pub unelected-taken : (b : Book) → Valid b → Fits b → Entries side w (b .slots)
       → unelected price w (chainIndices (ByWatermark side) b) ≡ chainIndices (ByWatermark side) (takenOn side price b)
-  unfolding chainSide
   unelected-taken = one-by-one side price Left none step
     where
       Left : Book → Type 0

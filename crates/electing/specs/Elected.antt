@@ -6,14 +6,16 @@ use lib.ListN.{getD}
 use Rattle.pricelevel.specs.declared.Price.{Price}
 use Rattle.pricelevel.specs.declared.Side.{Side}
 use Rattle.stop_terms.specs.Terms.{electedAt}
-use Rattle.book.proofs.Steps.{takenOn}
-use Rattle.book.proofs.Validity.{Valid, Fits}
+use Rattle.book.specs.Steps.{takenOn}
+use Rattle.book.specs.Valid.{Valid, Fits}
 use Rattle.book.specs.Book.{Book}
 use Rattle.book.specs.Words.{chainIndices, entryAt}
 use Rattle.book.specs.declared.Chain.the-variants.{ByStop, ByWatermark}
-use Rattle.chains.specs.Chained.{Name, of, Chained, upd}
-use Rattle.chains.specs.Links.{headOf}
-use Rattle.pending_stops.proofs.Holding.{Contents, chainsOf}
+use Rattle.chains.specs.Chained.{Chained, upd}
+use Rattle.book.specs.Chains.{headOf, chainsOf}
+use Rattle.book.specs.declared.StoreChain.{StoreChain}
+use Rattle.book.specs.declared.StoreChain.the-variants.{Ordered}
+use Rattle.pending_stops.specs.Stored.{Contents}
 
 -- record i, if the price elects its stop, else 0
 unfoldable pub electedOr0 : Price → List ℕ → ℕ → ℕ
@@ -29,8 +31,8 @@ unelected price w [] = []
 unelected price w (i ∷ l) = cond (electedAt (entryAt w i .terms) price) (unelected price w l) (i ∷ unelected price w l)
 
 -- the chains of a book, but for the watermark chain of a side, which the elected have left
-abbrev pub droppedChains : Side → Price → Book → Name → List ℕ
-droppedChains side price b = upd (of (ByWatermark side)) (chainIndices (ByWatermark side) (takenOn side price b)) (chainsOf b)
+abbrev pub droppedChains : Side → Price → Book → StoreChain → List ℕ
+droppedChains side price b = upd (Ordered (ByWatermark side)) (chainIndices (ByWatermark side) (takenOn side price b)) (chainsOf b)
 
 -- the words of a store with these chains: the data of book b, this count, and then r
 pub record Dropped (side : Side) (price : Price) (n : ℕ) (w : List ℕ) (count : ℕ) (b : Book) (r : List ℕ) : Type 0 where

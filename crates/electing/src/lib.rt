@@ -1,28 +1,30 @@
 // The elected stops of a side leave a store. They are the first of its stop chain; one pass takes them out of its watermark chain, then
 // each goes from the head of the stop chain to that of the free chain.
 use book::Chain;
-use chains::cell;
-use chains::head_of;
-use chains::link_of;
-use chains::push;
-use chains::take_out;
 use pricelevel::Price;
 use pricelevel::Side;
-use store_words::terms_at;
-use store_words::write_free;
+use record_writer::write_free;
+use records::cell;
+use records::head_of;
+use records::link_of;
+use store_chains::push;
+use store_chains::take_out;
+use stored_stops::terms_at;
 ghost use mathlib.Core.List.{List};
 ghost use mathlib.Core.Path.{_≡_};
 ghost use Prim.Native.Nat.{ℕ};
 ghost use lib.ListN.{length};
-ghost use Rattle.book.proofs.Steps.{electedIn, takenOn};
+ghost use Rattle.book.specs.Steps.{electedIn, takenOn};
 ghost use Rattle.book.specs.Book.{Book};
-ghost use Rattle.chains.specs.Chained.{Name, of, Chained, Kept, upd};
+ghost use Rattle.chains.specs.Chained.{Chained, Kept, upd};
+ghost use Rattle.book.specs.declared.StoreChain.{StoreChain};
+ghost use Rattle.book.specs.declared.StoreChain.the-variants.{Ordered};
 ghost use Rattle.electing.specs.Elected.{firstElected, unelected, Dropped};
 ghost use Rattle.pending_stops.specs.Stored.{Stored};
 
 // The first of a side's stop chain, if the price elects it; 0 otherwise.
 fn first_elected(s: &[u64], n: u64, side: Side, price: Price) -> u64
-    requires { ⌜ ((ch : Name → List ℕ) × Chained n (now s) ch) ⌝ }
+    requires { ⌜ ((ch : StoreChain → List ℕ) × Chained n (now s) ch) ⌝ }
     ensures { λ r. ⌜ r ≡ firstElected side price (now (s .entry)) ⌝ }
 {
     let head = head_of(Chain::ByStop(side));
@@ -39,10 +41,10 @@ fn first_elected(s: &[u64], n: u64, side: Side, price: Price) -> u64
 
 // Takes every record whose stop the price elects out of a chain. Their own links stay as they are.
 fn drop_elected(s: &mut [u64], n: u64, c: Chain, price: Price)
-    requires { ⌜ ((ch : Name → List ℕ) × Chained n (now s) ch) ⌝ }
+    requires { ⌜ ((ch : StoreChain → List ℕ) × Chained n (now s) ch) ⌝ }
     ensures { λ _. ⌜ Kept n (now (s .entry)) (now (s .exit)) ⌝ }
-    ensures { λ _. ⌜ ((ch : Name → List ℕ) → Chained n (now (s .entry)) ch
-        → Chained n (now (s .exit)) (upd (of c) (unelected price (now (s .entry)) (ch (of c))) ch)) ⌝ }
+    ensures { λ _. ⌜ ((ch : StoreChain → List ℕ) → Chained n (now (s .entry)) ch
+        → Chained n (now (s .exit)) (upd (Ordered c) (unelected price (now (s .entry)) (ch (Ordered c))) ch)) ⌝ }
 {
     let link = link_of(c);
     let mut p = head_of(c);

@@ -1,7 +1,9 @@
 // The refusals of document 01, "The questions a call goes through". They stand for the Rust's OrderBookError; where that has
 // one error for several questions, each question has its own refusal here.
 ghost use mathlib.Core.Path.{_≡_};
+ghost use Rattle.error.specs.Questions.{question, asked};
 ghost use Rattle.error.specs.Refusal.{refusalNumber};
+ghost use Rattle.error.specs.Verdict.{toldVerdict};
 
 pub enum Refusal {
     StoreNotWellFormed,
@@ -56,4 +58,21 @@ impl Refusal {
 pub enum Verdict {
     Accepted,
     Refused(Refusal),
+}
+
+impl Verdict {
+    // The verdict with one question more, and the refusal that it gives where it is the first that does not hold.
+    pub fn ask(self, holds: bool, refusal: Refusal) -> Verdict
+        ensures { λ r. ⌜ toldVerdict r ≡ asked (toldVerdict self) (question (refusalNumber refusal) holds) ⌝ }
+    {
+        match self {
+            Verdict::Refused(first) => Verdict::Refused(first),
+            Verdict::Accepted => {
+                if holds {
+                    return Verdict::Accepted;
+                }
+                Verdict::Refused(refusal)
+            }
+        }
+    }
 }

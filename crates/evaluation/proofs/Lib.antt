@@ -1,4 +1,3 @@
 pub mod Asking
-pub mod EndsDecide
 pub mod Outcomes
 pub mod Passes

@@ -1,25 +1,20 @@
 -- What a segment and a walk answer and leave, refused and accepted.
-use Prim.Native.Nat.{ℕ, _+_, _*_, _≤_}
+use Prim.Native.Nat.{ℕ, _+_, _≤_}
 use native.Mathlib.Omega.{arith}
-use mathlib.Core.Path.{_≡_, refl, sym, ap, _∙_}
-use mathlib.Core.Bool.{Bool, true, _&&_}
+use mathlib.Core.Path.{_≡_, refl, ap, _∙_}
 use mathlib.Core.List.{List, [], _∷_, map}
 use mathlib.Core.Option.{none, some}
-use borrow.Author.Tests.{leb-true}
-use lib.Dec.{leb}
 use lib.ListN.{length, getD, length-map}
 use lib.Seq.{sets, length-sets}
 use Rattle.error.specs.Answer.{refused, accepted}
-use Rattle.pricelevel.proofs.Bools.{and-parts}
 use Rattle.pricelevel.specs.declared.Price.{Price}
+use Rattle.book.specs.declared.Counts.{Counts}
 use Rattle.book.proofs.Evaluating.{PointsAt, segment-points, walk-points, points-count, segment-moves}
-use Rattle.book.proofs.Questions.{firstNo-none}
-use Rattle.book.specs.Book.{Book, pendingCount}
-use Rattle.book.specs.Calls.{electedEntry, electedEntries, written, countsOf, pendingIn, mostPrices, segmentQuestions, walkQuestions}
-use Rattle.book.specs.Calls as calls
-use Rattle.book.specs.Evaluation.{Fill, Evaluated, segment, walk}
-use Rattle.book.specs.Questions.{firstNo, decide}
-use Rattle.book.specs.Words.{bookOf, wellFormed}
+use Rattle.book.specs.Book.{pendingCount}
+use Rattle.book.specs.Calls.{electedEntry, electedEntries, written, countsOf, SegmentOutcome, segmentQuestions, segmentCall, WalkOutcome, walkQuestions, walkCall}
+use Rattle.book.specs.Evaluation.{Evaluated, segment, walk}
+use Rattle.error.specs.Questions.{firstNo, decide}
+use Rattle.book.specs.Words.{bookOf}
 use Rattle.book.specs.declared.LastPrice.{LastPrice}
 use Rattle.book.specs.declared.PrintSegment.{PrintSegment}
 use Rattle.book.specs.declared.Settings.{Settings}
@@ -27,85 +22,74 @@ use Rattle.listing.proofs.Sets.{sets-written, sets-over}
 use Rattle.listing.specs.Entries.{movedWords, fillWords, electedWords}
 use Rattle.pending_stops.proofs.Finding.{beyond, stored-words}
 use Rattle.pending_stops.specs.Stored.{Stored}
-use Rattle.evaluation.specs.Listed.{SegmentListed, segmentListed, WalkListed, walkListed}
-
-------------------------------------------------------------------------
--- Lists
+use Rattle.evaluation.proofs.Asking.{segment-room, walk-room}
 
 map-both : {A B C : Type 0} (f : B → C) (g : A → B) (l : List A) → map (λ x. f (g x)) l ≡ map f (map g l)
 map-both f g [] = refl
 map-both f g (x ∷ l) = ap (λ t. f (g x) ∷ t) (map-both f g l)
 
--- fills written from the start of a list, and then completed
-pub completed-list : (s : Settings) (o : Evaluated) (l l1 l2 : List (List ℕ)) → length (o .fills) ≤ length l → l1 ≡ sets l 0 (map fillWords (o .fills))
-    → l2 ≡ sets l1 0 (map (λ f. electedWords (electedEntry s (o .book) f)) (o .fills)) → l2 ≡ written (map electedWords (electedEntries s o)) l
-unfolding electedEntries
-completed-list s o l l1 l2 room h g =
-    let words : List (List ℕ) = map (λ f. electedWords (electedEntry s (o .book) f)) (o .fills) in
-    g ∙ ap (λ (t : List (List ℕ)). sets t 0 words) h
-    ∙ sets-over (map fillWords (o .fills)) words l 0 (rw (length-map, length-map))
-    ∙ sets-written words l (rw length-map room)
-    ∙ ap (λ (t : List (List ℕ)). written t l) (map-both electedWords (electedEntry s (o .book)) (o .fills))
-
 -- a place counted from the start
 pub from-start : (k n : ℕ) → k ≡ n → k ≡ 0 + n
 from-start k n e = omega (arith, e)
 
--- the place after the fills is in the list
-pub fills-within : (k : ℕ) (fs : List Fill) (l l1 : List (List ℕ)) → length fs ≤ length l → k ≡ length fs → l1 ≡ sets l 0 (map fillWords fs) → k ≤ length l1
-fills-within k fs l l1 room e h = rw (e, h, length-sets l 0 (map fillWords fs)) room
+-- an evaluation with room for the elected: its fills are written from the start of the list, and then completed
+module _ (s : Settings) (w : List ℕ) (elected : List (List ℕ)) (ps : List Price) (o : Evaluated) (points : PointsAt (s .kill) ps (bookOf w) o)
+    (room : pendingCount (bookOf w .slots) ≤ length elected) (filled : List (List ℕ)) (h : filled ≡ sets elected 0 (map fillWords (o .fills))) where
+  few : length (o .fills) ≤ length elected
+  few = omega (arith, points-count (s .kill) points, room)
 
--- the elected are no more than were pending
-fills-few : (kill : Bool) (ps : List Price) (b : Book) (o : Evaluated) → PointsAt kill ps b o → length (o .fills) ≤ pendingCount (b .slots)
-fills-few kill ps b o p = omega (arith, points-count kill p)
+  pub fills-within : (k : ℕ) → k ≡ length (o .fills) → k ≤ length filled
+  fills-within k e = rw (e, h, length-sets elected 0 (map fillWords (o .fills))) few
+
+  completed : (l : List (List ℕ)) → l ≡ sets filled 0 (map (λ f. electedWords (electedEntry s (o .book) f)) (o .fills))
+      → l ≡ written (map electedWords (electedEntries s o)) elected
+  unfolding electedEntries
+  completed l g =
+      let words : List (List ℕ) = map (λ f. electedWords (electedEntry s (o .book) f)) (o .fills) in
+      g ∙ ap (λ (t : List (List ℕ)). sets t 0 words) h
+      ∙ sets-over (map fillWords (o .fills)) words elected 0 (rw (length-map, length-map))
+      ∙ sets-written words elected (rw length-map few)
+      ∙ ap (λ (t : List (List ℕ)). written t elected) (map-both electedWords (electedEntry s (o .book)) (o .fills))
 
 ------------------------------------------------------------------------
 -- Segment
 
 module _ (s : Settings) (prints : PrintSegment) (w : List ℕ) (elected moved : List (List ℕ)) where
-  abbrev outcome : SegmentListed
-  outcome = segmentListed s prints w elected moved
+  abbrev outcome : SegmentOutcome
+  outcome = segmentCall s prints w (length elected) (length moved)
+
+  -- the two lists after the call
+  abbrev elected-after : List (List ℕ)
+  elected-after = written (map electedWords (outcome .elected)) elected
+
+  abbrev moved-after : List (List ℕ)
+  moved-after = written (map movedWords (outcome .moved)) moved
 
   abbrev after : Evaluated
   after = segment (s .kill) prints (bookOf w)
 
   pub segment-refused : (k : ℕ) → some k ≡ firstNo (segmentQuestions w (length elected) (length moved))
-      → (refused k ≡ outcome .answer) × ((w ≡ outcome .words) × ((elected ≡ outcome .elected) × (moved ≡ outcome .moved)))
-  unfolding segmentListed decide
+      → (refused k ≡ outcome .answer) × ((w ≡ outcome .words) × ((elected ≡ elected-after) × (moved ≡ moved-after)))
+  unfolding segmentCall decide written
   segment-refused k h = (rw (← h), (rw (← h), (rw (← h), rw (← h))))
 
-  module _ (h : none ≡ firstNo (segmentQuestions w (length elected) (length moved))) where
-    room : (leb (pendingIn w) (length elected) && leb (2 * pendingIn w) (length moved)) ≡ true
-    unfolding segmentQuestions
-    room = firstNo-none (segmentQuestions w (length elected) (length moved)) (sym h) .1 .0
+  module _ (h : none ≡ firstNo (segmentQuestions w (length elected) (length moved))) (l1 : List (List ℕ))
+      (filled : l1 ≡ sets elected 0 (map fillWords (after .fills))) where
+    pub segment-within : (k : ℕ) → k ≡ length (after .fills) → k ≤ length l1
+    segment-within = fills-within s w elected _ after (segment-points (s .kill) prints (bookOf w)) (segment-room w _ _ h .0) l1 filled
 
-    pub segment-formed : wellFormed w ≡ true
-    unfolding segmentQuestions
-    segment-formed = firstNo-none (segmentQuestions w (length elected) (length moved)) (sym h) .0
-
-    pub segment-elected : pendingCount (bookOf w .slots) ≤ length elected
-    unfolding pendingIn
-    segment-elected = leb-true _ _ (and-parts (leb (pendingIn w) (length elected)) _ room .0)
-
-    pub segment-moved : 2 * pendingCount (bookOf w .slots) ≤ length moved
-    unfolding pendingIn
-    segment-moved = leb-true _ _ (and-parts (leb (pendingIn w) (length elected)) _ room .1)
-
-    pub segment-fills : length (after .fills) ≤ length elected
-    segment-fills = omega (arith, fills-few (s .kill) _ (bookOf w) after (segment-points (s .kill) prints (bookOf w)), segment-elected)
-
-    pub segment-done : (c : calls.Counts) (u : List ℕ) (l1 l2 m : List (List ℕ)) → c .moves ≡ length (after .moved) → c .elected ≡ length (after .fills)
-        → l1 ≡ sets elected 0 (map fillWords (after .fills)) → m ≡ sets moved 0 (map movedWords (after .moved)) → Stored (getD w 0 0) u (after .book) (beyond w)
+    pub segment-done : (c : Counts) (u : List ℕ) (l2 m : List (List ℕ)) → c .moves ≡ length (after .moved) → c .elected ≡ length (after .fills)
+        → m ≡ sets moved 0 (map movedWords (after .moved)) → Stored (getD w 0 0) u (after .book) (beyond w)
         → l2 ≡ sets l1 0 (map (λ f. electedWords (electedEntry s (after .book) f)) (after .fills))
-        → (accepted c ≡ outcome .answer) × ((u ≡ outcome .words) × ((l2 ≡ outcome .elected) × (m ≡ outcome .moved)))
-    unfolding segmentListed decide countsOf
-    segment-done c u l1 l2 m moves count h1 hm st h2 = (
+        → (accepted c ≡ outcome .answer) × ((u ≡ outcome .words) × ((l2 ≡ elected-after) × (m ≡ moved-after)))
+    unfolding segmentCall decide countsOf
+    segment-done c u l2 m moves count hm st h2 = (
       rw (← h, ← moves, ← count),
       (
         rw (← h) (stored-words w u (after .book) st),
         (
-          rw (← h) (completed-list s after elected l1 l2 segment-fills h1 h2),
-          rw (← h) (hm ∙ sets-written (map movedWords (after .moved)) moved (rw length-map (omega (arith, segment-moves (s .kill) prints (bookOf w), segment-moved)))),
+          rw (← h) (completed s w elected _ after (segment-points (s .kill) prints (bookOf w)) (segment-room w _ _ h .0) l1 filled l2 h2),
+          rw (← h) (hm ∙ sets-written (map movedWords (after .moved)) moved (rw length-map (omega (arith, segment-moves (s .kill) prints (bookOf w), segment-room w _ _ h .1)))),
         ),
       ),
     )
@@ -114,41 +98,33 @@ module _ (s : Settings) (prints : PrintSegment) (w : List ℕ) (elected moved : 
 -- Walk
 
 module _ (s : Settings) (prev : LastPrice) (prices : List Price) (w : List ℕ) (elected : List (List ℕ)) where
-  abbrev outcome-walk : WalkListed
-  outcome-walk = walkListed s prev prices w elected
+  abbrev outcome-walk : WalkOutcome
+  outcome-walk = walkCall s prev prices w (length elected)
+
+  abbrev walk-after : List (List ℕ)
+  walk-after = written (map electedWords (outcome-walk .elected)) elected
 
   abbrev walked : Evaluated
   walked = walk (s .kill) prev prices (bookOf w)
 
   pub walk-refused : (k : ℕ) → some k ≡ firstNo (walkQuestions prices w (length elected))
-      → (refused k ≡ outcome-walk .answer) × ((w ≡ outcome-walk .words) × (elected ≡ outcome-walk .elected))
-  unfolding walkListed decide
+      → (refused k ≡ outcome-walk .answer) × ((w ≡ outcome-walk .words) × (elected ≡ walk-after))
+  unfolding walkCall decide written
   walk-refused k h = (rw (← h), (rw (← h), rw (← h)))
 
-  module _ (h : none ≡ firstNo (walkQuestions prices w (length elected))) where
-    pub walk-formed : wellFormed w ≡ true
-    unfolding walkQuestions
-    walk-formed = firstNo-none (walkQuestions prices w (length elected)) (sym h) .0
+  module _ (h : none ≡ firstNo (walkQuestions prices w (length elected))) (l1 : List (List ℕ)) (filled : l1 ≡ sets elected 0 (map fillWords (walked .fills))) where
+    pub walk-within : (k : ℕ) → k ≡ length (walked .fills) → k ≤ length l1
+    walk-within = fills-within s w elected _ walked (walk-points (s .kill) prev prices (bookOf w)) (walk-room prices w _ h) l1 filled
 
-    pub walk-elected : pendingCount (bookOf w .slots) ≤ length elected
-    unfolding walkQuestions pendingIn
-    walk-elected = leb-true _ _ (firstNo-none (walkQuestions prices w (length elected)) (sym h) .1 .0)
-
-    pub walk-prices : (1 ≤ length prices) × (length prices ≤ mostPrices)
-    unfolding walkQuestions
-    walk-prices =
-        let q = and-parts (leb 1 (length prices)) _ (firstNo-none (walkQuestions prices w (length elected)) (sym h) .1 .1 .0) in
-        (leb-true _ _ (q .0), leb-true _ _ (q .1))
-
-    pub walk-fills : length (walked .fills) ≤ length elected
-    walk-fills = omega (arith, fills-few (s .kill) _ (bookOf w) walked (walk-points (s .kill) prev prices (bookOf w)), walk-elected)
-
-    pub walk-done : (c : calls.Counts) (u : List ℕ) (l1 l2 : List (List ℕ)) → c .moves ≡ length (walked .moved) → c .elected ≡ length (walked .fills)
-        → l1 ≡ sets elected 0 (map fillWords (walked .fills)) → Stored (getD w 0 0) u (walked .book) (beyond w)
+    pub walk-done : (c : Counts) (u : List ℕ) (l2 : List (List ℕ)) → c .moves ≡ length (walked .moved) → c .elected ≡ length (walked .fills)
+        → Stored (getD w 0 0) u (walked .book) (beyond w)
         → l2 ≡ sets l1 0 (map (λ f. electedWords (electedEntry s (walked .book) f)) (walked .fills))
-        → (accepted c ≡ outcome-walk .answer) × ((u ≡ outcome-walk .words) × (l2 ≡ outcome-walk .elected))
-    unfolding walkListed decide countsOf
-    walk-done c u l1 l2 moves count h1 st h2 = (
+        → (accepted c ≡ outcome-walk .answer) × ((u ≡ outcome-walk .words) × (l2 ≡ walk-after))
+    unfolding walkCall decide countsOf
+    walk-done c u l2 moves count st h2 = (
       rw (← h, ← moves, ← count),
-      (rw (← h) (stored-words w u (walked .book) st), rw (← h) (completed-list s walked elected l1 l2 walk-fills h1 h2)),
+      (
+        rw (← h) (stored-words w u (walked .book) st),
+        rw (← h) (completed s w elected _ walked (walk-points (s .kill) prev prices (bookOf w)) (walk-room prices w _ h) l1 filled l2 h2),
+      ),
     )

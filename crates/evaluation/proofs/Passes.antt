@@ -1,7 +1,7 @@
 -- What a pass and a run answer and leave, refused and accepted.
 use Prim.Native.Nat.{ℕ, _≤_, _<_}
 use native.Mathlib.Omega.{arith}
-use mathlib.Core.Path.{_≡_, refl, sym, ap, _∙_}
+use mathlib.Core.Path.{_≡_, sym, _∙_}
 use mathlib.Core.Bool.{Bool, true, false, not, cond, _||_}
 use mathlib.Core.List.{List, map}
 use mathlib.Core.Option.{Option, none, some}
@@ -11,13 +11,13 @@ use lib.Dec.{eqb}
 use lib.ListN.{length, getD, length-map}
 use lib.Seq.{sets}
 use Rattle.error.specs.Answer.{refused, accepted}
+use Rattle.book.specs.declared.PassCounts.{PassCounts}
 use Rattle.book.proofs.Passing.{pass-count}
 use Rattle.book.proofs.Questions.{firstNo-none}
 use Rattle.book.specs.Book.{pendingCount}
-use Rattle.book.specs.Calls.{Passed, pass, pendingIn, passQuestions}
-use Rattle.book.specs.Calls as calls
+use Rattle.book.specs.Calls.{written, Passed, pass, pendingIn, passQuestions, PassOutcome, passed, passCall, RunOutcome, runOver, runCall}
 use Rattle.book.specs.Path.{segmentOf, closed, take}
-use Rattle.book.specs.Questions.{firstNo, decide}
+use Rattle.error.specs.Questions.{firstNo, decide}
 use Rattle.book.specs.Script.{scriptFormed}
 use Rattle.book.specs.Words.{bookOf, wellFormed}
 use Rattle.book.specs.declared.LastPrice.{LastPrice}
@@ -28,7 +28,6 @@ use Rattle.listing.proofs.Sets.{sets-written}
 use Rattle.listing.specs.Entries.{electedWords}
 use Rattle.pending_stops.proofs.Finding.{beyond, stored-words}
 use Rattle.pending_stops.specs.Stored.{Stored}
-use Rattle.evaluation.specs.Listed.{PassListed, passedListed, passListed, RunListed, runOverListed, runListed}
 use Rattle.evaluation.proofs.Asking.{count-word}
 
 ------------------------------------------------------------------------
@@ -71,34 +70,35 @@ module _ (script w : List ℕ) (elected : ℕ) (h : firstNo (passQuestions scrip
 -- The pass
 
 module _ (s : Settings) (script : List ℕ) (prints : PrintSegment) (w : List ℕ) (elected : List (List ℕ)) where
-  abbrev done : PassListed
-  done = passedListed s script prints w elected
-
   abbrev after : Passed
   after = pass s script prints (bookOf w)
 
-  pub passed-done : firstNo (passQuestions script w (length elected)) ≡ none → (c : calls.PassCounts) (u : List ℕ) (l : List (List ℕ))
+  -- the call answers, and leaves of store and list
+  abbrev pub PassLeaves : PassOutcome → PassCounts → List ℕ → List (List ℕ) → Type 0
+  PassLeaves o c u l = (accepted c ≡ o .answer) × ((u ≡ o .words) × (l ≡ written (map electedWords (o .elected)) elected))
+
+  pub passed-done : firstNo (passQuestions script w (length elected)) ≡ none → (c : PassCounts) (u : List ℕ) (l : List (List ℕ))
       → c .moves ≡ after .moves → c .elected ≡ length (after .entries) → c .used ≡ after .used
       → l ≡ sets elected 0 (map electedWords (after .entries)) → Stored (getD w 0 0) u (after .book) (beyond w)
-      → (accepted c ≡ done .answer) × ((u ≡ done .words) × (l ≡ done .elected))
-  unfolding passedListed
+      → PassLeaves (passed s script prints w) c u l
+  unfolding passed
   passed-done h c u l moves count used list st =
       let few : length (after .entries) ≤ length elected = omega (arith, pass-count s script prints (bookOf w), pass-elected script w (length elected) h) in (
         rw (← moves, ← count, ← used),
         (stored-words w u (after .book) st, list ∙ sets-written (map electedWords (after .entries)) elected (rw length-map few)),
       )
 
+  abbrev whole : PassOutcome
+  whole = passCall s script prints w (length elected)
+
   pub pass-refused : (k : ℕ) → some k ≡ firstNo (passQuestions script w (length elected))
-      → (refused k ≡ passListed s script prints w elected .answer)
-      × ((w ≡ passListed s script prints w elected .words) × (elected ≡ passListed s script prints w elected .elected))
-  unfolding passListed decide
+      → (refused k ≡ whole .answer) × ((w ≡ whole .words) × (elected ≡ written (map electedWords (whole .elected)) elected))
+  unfolding passCall decide written
   pass-refused k h = (rw (← h), (rw (← h), rw (← h)))
 
-  pub pass-accepted-as : none ≡ firstNo (passQuestions script w (length elected)) → (c : calls.PassCounts) (u : List ℕ) (l : List (List ℕ))
-      → (accepted c ≡ done .answer) × ((u ≡ done .words) × (l ≡ done .elected))
-      → (accepted c ≡ passListed s script prints w elected .answer)
-      × ((u ≡ passListed s script prints w elected .words) × (l ≡ passListed s script prints w elected .elected))
-  unfolding passListed decide
+  pub pass-accepted-as : none ≡ firstNo (passQuestions script w (length elected)) → (c : PassCounts) (u : List ℕ) (l : List (List ℕ))
+      → PassLeaves (passed s script prints w) c u l → PassLeaves whole c u l
+  unfolding passCall decide
   pass-accepted-as h c u l d = rw (← h) d
 
 ------------------------------------------------------------------------
@@ -115,12 +115,15 @@ unfolding take
 taken-segment pending path trade x h e = e ∙ choose (eqb pending 0) (path .«open») (some (segmentOf path trade)) (ne-eqb pending 0 h)
 
 module _ (s : Settings) (script : List ℕ) (trade : LastPrice) (w : List ℕ) (elected : List (List ℕ)) (path : PrintPath) where
-  abbrev run : RunListed
-  run = runListed s script trade w elected path
+  abbrev run : RunOutcome
+  run = runCall s script trade w (length elected) path
+
+  abbrev run-after : List (List ℕ)
+  run-after = written (map electedWords (run .elected)) elected
 
   pub run-refused : (k : ℕ) → some k ≡ firstNo (passQuestions script w (length elected))
-      → (refused k ≡ run .answer) × ((path ≡ run .path) × ((w ≡ run .words) × (elected ≡ run .elected)))
-  unfolding runListed decide
+      → (refused k ≡ run .answer) × ((path ≡ run .path) × ((w ≡ run .words) × (elected ≡ run-after)))
+  unfolding runCall decide written
   run-refused k h = (rw (← h), (rw (← h), (rw (← h), rw (← h))))
 
   module _ (h : none ≡ firstNo (passQuestions script w (length elected))) (next : Option PrintSegment)
@@ -132,18 +135,17 @@ module _ (s : Settings) (script : List ℕ) (trade : LastPrice) (w : List ℕ) (
     next-is = rw (← count-word w (pass-formed script w (length elected) (sym h))) is
 
     pub run-idle : next ≡ none → (accepted (record { moves = 0; elected = 0; used = 0 }) ≡ run .answer)
-        × ((path ≡ run .path) × ((w ≡ run .words) × (elected ≡ run .elected)))
-    unfolding runListed runOverListed decide
+        × ((path ≡ run .path) × ((w ≡ run .words) × (elected ≡ run-after)))
+    unfolding runCall runOver decide written
     run-idle e =
         cases idle (λ q. (rw (← h, q), (rw (← h, q), (rw (← h, q), rw (← h, q)))))
         (λ q. let f : some (segmentOf path trade) ≡ none = sym (rw q at next-is) ∙ e in let z : _≡_ {A = ℕ} 0 1 = cc in absurd (omega arith))
 
-    pub run-taken : (prints : PrintSegment) → next ≡ some prints → (c : calls.PassCounts) (u : List ℕ) (l : List (List ℕ)) (closing : PrintPath)
-        → (accepted c ≡ passedListed s script prints w elected .answer)
-        × ((u ≡ passedListed s script prints w elected .words) × (l ≡ passedListed s script prints w elected .elected))
+    pub run-taken : (prints : PrintSegment) → next ≡ some prints → (c : PassCounts) (u : List ℕ) (l : List (List ℕ)) (closing : PrintPath)
+        → PassLeaves s script prints w elected (passed s script prints w) c u l
         → closing ≡ closed path
-        → (accepted c ≡ run .answer) × ((closing ≡ run .path) × ((u ≡ run .words) × (l ≡ run .elected)))
-    unfolding runListed runOverListed decide
+        → (accepted c ≡ run .answer) × ((closing ≡ run .path) × ((u ≡ run .words) × (l ≡ run-after)))
+    unfolding runCall runOver decide written
     run-taken prints e c u l closing d p =
         cases idle
         (λ q. let f : none ≡ some prints = sym (rw q at next-is) ∙ e in let z : _≡_ {A = ℕ} 0 1 = cc in absurd (omega arith))

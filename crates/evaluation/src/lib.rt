@@ -1,48 +1,44 @@
 // The calls that evaluate a store of pending stops: a segment, a walk, a pass and the run over path and store, from orderbook-rs's
 // stop_orders.rs. Each goes through its questions in their order; a refused call alters nothing. A list that a call is lent has the
 // entries of the crate listing.
+use book::Counts;
+use book::ElectedWords;
+use book::EvaluationAnswer;
 use book::LastPrice;
+use book::MOST_PRICES;
+use book::MovedWords;
+use book::PassAnswer;
+use book::PassCounts;
 use book::PrintPath;
 use book::PrintSegment;
 use book::Settings;
+use book::StopRun;
+use children::complete;
 use error::Refusal;
 use error::Verdict;
 use form::well_formed;
-use listing::complete;
 use passing::pass;
-use points::segment_listed;
-use points::walk_points;
+use price_walk::walk_points;
 use print_path::NextSegment;
 use print_path::closed;
 use print_path::taken;
 use script::script_formed;
+use segments::segment_listed;
 ghost use mathlib.Core.Bool.{cond, not, _||_};
 ghost use mathlib.Core.List.{map};
 ghost use mathlib.Core.Option.{none, some};
 ghost use mathlib.Core.Path.{_≡_};
 ghost use lib.Dec.{eqb};
 ghost use lib.ListN.{length};
-ghost use Rattle.book.specs.Calls.{segmentQuestions, walkQuestions, passQuestions};
+ghost use Rattle.book.specs.Calls.{written, segmentQuestions, segmentCall, walkQuestions, walkCall, passQuestions, passed, passCall, runCall};
 ghost use Rattle.book.specs.Path.{segmentOf};
-ghost use Rattle.book.specs.Questions.{firstNo};
+ghost use Rattle.error.specs.Questions.{firstNo};
 ghost use Rattle.error.specs.Answer.{accepted};
 ghost use Rattle.error.specs.Verdict.{toldVerdict};
-ghost use Rattle.evaluation.specs.Answers.{toldCounts, toldPassCounts, toldPass};
-ghost use Rattle.evaluation.specs.Listed.{segmentListed, walkListed, passedListed, passListed, runListed};
-ghost use Rattle.points.specs.Steps.{toPrice};
+ghost use Rattle.book.specs.Answers.{toldCounts, toldPass};
+ghost use Rattle.listing.specs.Entries.{electedWords, movedWords};
+ghost use Rattle.pricelevel.specs.Price.{toPrice};
 ghost use Rattle.print_path.specs.Segments.{toldNext};
-
-// How many stops were moved, once per point, and how many were elected.
-pub struct Counts {
-    pub moves: u64,
-    pub elected: u64,
-}
-
-// What a segment or a walk answers, or why it was refused.
-pub enum EvaluationAnswer {
-    Ok(Counts),
-    Err(Refusal),
-}
 
 // ---------------------------------------------------------------------
 // Segment
@@ -55,13 +51,9 @@ fn ask_segment(s: &[u64], elected: usize, moved: usize) -> Verdict
         return Verdict::Refused(Refusal::StoreNotWellFormed);
     }
     let count = s[1] as usize;
-    if elected < count {
-        return Verdict::Refused(Refusal::ListTooShort);
-    }
-    if moved < 2 * count {
-        return Verdict::Refused(Refusal::ListTooShort);
-    }
     Verdict::Accepted
+        .ask(elected >= count, Refusal::ListTooShort)
+        .ask(moved >= 2 * count, Refusal::ListTooShort)
 }
 
 // A segment: a point at its first print, and one at its last if that differs. The elected and the moved are written from the start of
@@ -70,13 +62,15 @@ pub fn segment(
     s: &mut [u64],
     settings: Settings,
     prints: PrintSegment,
-    elected: &mut [[u64; 13]],
-    moved: &mut [[u64; 4]],
+    elected: &mut [ElectedWords],
+    moved: &mut [MovedWords],
 ) -> EvaluationAnswer
-    ensures { λ r. ⌜ toldCounts r ≡ segmentListed settings prints (now (s .entry)) (now (elected .entry)) (now (moved .entry)) .answer ⌝ }
-    ensures { λ _. ⌜ now (s .exit) ≡ segmentListed settings prints (now (s .entry)) (now (elected .entry)) (now (moved .entry)) .words ⌝ }
-    ensures { λ _. ⌜ now (elected .exit) ≡ segmentListed settings prints (now (s .entry)) (now (elected .entry)) (now (moved .entry)) .elected ⌝ }
-    ensures { λ _. ⌜ now (moved .exit) ≡ segmentListed settings prints (now (s .entry)) (now (elected .entry)) (now (moved .entry)) .moved ⌝ }
+    ensures { λ r. ⌜ toldCounts r ≡ segmentCall settings prints (now (s .entry)) (length (now (elected .entry))) (length (now (moved .entry))) .answer ⌝ }
+    ensures { λ _. ⌜ now (s .exit) ≡ segmentCall settings prints (now (s .entry)) (length (now (elected .entry))) (length (now (moved .entry))) .words ⌝ }
+    ensures { λ _. ⌜ now (elected .exit)
+        ≡ written (map electedWords (segmentCall settings prints (now (s .entry)) (length (now (elected .entry))) (length (now (moved .entry))) .elected)) (now (elected .entry)) ⌝ }
+    ensures { λ _. ⌜ now (moved .exit)
+        ≡ written (map movedWords (segmentCall settings prints (now (s .entry)) (length (now (elected .entry))) (length (now (moved .entry))) .moved)) (now (moved .entry)) ⌝ }
 {
     let verdict = ask_segment(&s[..], elected.len(), moved.len());
     match verdict {
@@ -104,16 +98,10 @@ fn ask_walk(s: &[u64], prices: &[u64], elected: usize) -> Verdict
         return Verdict::Refused(Refusal::StoreNotWellFormed);
     }
     let count = s[1] as usize;
-    if elected < count {
-        return Verdict::Refused(Refusal::ListTooShort);
-    }
-    if prices.len() < 1 {
-        return Verdict::Refused(Refusal::PriceCountOutOfRange);
-    }
-    if prices.len() > 4096 {
-        return Verdict::Refused(Refusal::PriceCountOutOfRange);
-    }
     Verdict::Accepted
+        .ask(elected >= count, Refusal::ListTooShort)
+        .ask(prices.len() >= 1, Refusal::PriceCountOutOfRange)
+        .ask(prices.len() <= MOST_PRICES, Refusal::PriceCountOutOfRange)
 }
 
 // A walk: a point at each price in turn. The elected are written from the start of the list; later entries stay. Refused: the store is not
@@ -123,11 +111,12 @@ pub fn walk(
     settings: Settings,
     prev: LastPrice,
     prices: &[u64],
-    elected: &mut [[u64; 13]],
+    elected: &mut [ElectedWords],
 ) -> EvaluationAnswer
-    ensures { λ r. ⌜ toldCounts r ≡ walkListed settings prev (map toPrice (now (prices .entry))) (now (s .entry)) (now (elected .entry)) .answer ⌝ }
-    ensures { λ _. ⌜ now (s .exit) ≡ walkListed settings prev (map toPrice (now (prices .entry))) (now (s .entry)) (now (elected .entry)) .words ⌝ }
-    ensures { λ _. ⌜ now (elected .exit) ≡ walkListed settings prev (map toPrice (now (prices .entry))) (now (s .entry)) (now (elected .entry)) .elected ⌝ }
+    ensures { λ r. ⌜ toldCounts r ≡ walkCall settings prev (map toPrice (now (prices .entry))) (now (s .entry)) (length (now (elected .entry))) .answer ⌝ }
+    ensures { λ _. ⌜ now (s .exit) ≡ walkCall settings prev (map toPrice (now (prices .entry))) (now (s .entry)) (length (now (elected .entry))) .words ⌝ }
+    ensures { λ _. ⌜ now (elected .exit)
+        ≡ written (map electedWords (walkCall settings prev (map toPrice (now (prices .entry))) (now (s .entry)) (length (now (elected .entry))) .elected)) (now (elected .entry)) ⌝ }
 {
     let verdict = ask_walk(&s[..], prices, elected.len());
     match verdict {
@@ -147,19 +136,6 @@ pub fn walk(
 // ---------------------------------------------------------------------
 // Pass and run
 
-// How many stops were moved, once per point, how many were elected, and how many script entries were used.
-pub struct PassCounts {
-    pub moves: u64,
-    pub elected: u64,
-    pub used: u64,
-}
-
-// What a pass answers, or why it was refused.
-pub enum PassAnswer {
-    Ok(PassCounts),
-    Err(Refusal),
-}
-
 // The questions of a pass: 1, 14, 15.
 fn ask_pass(s: &[u64], script: &[u64], elected: usize) -> Verdict
     ensures { λ r. ⌜ toldVerdict r ≡ firstNo (passQuestions (now (script .entry)) (now (s .entry)) elected) ⌝ }
@@ -168,13 +144,9 @@ fn ask_pass(s: &[u64], script: &[u64], elected: usize) -> Verdict
         return Verdict::Refused(Refusal::StoreNotWellFormed);
     }
     let count = s[1] as usize;
-    if elected < count {
-        return Verdict::Refused(Refusal::ListTooShort);
-    }
-    if !script_formed(script) {
-        return Verdict::Refused(Refusal::InvalidScript);
-    }
     Verdict::Accepted
+        .ask(elected >= count, Refusal::ListTooShort)
+        .ask(script_formed(script), Refusal::InvalidScript)
 }
 
 // A pass over a store that its questions let through, from a segment on.
@@ -183,12 +155,13 @@ fn pass_over(
     settings: Settings,
     script: &[u64],
     prints: PrintSegment,
-    elected: &mut [[u64; 13]],
+    elected: &mut [ElectedWords],
 ) -> PassCounts
     requires { ⌜ firstNo (passQuestions (now script) (now s) (length (now elected))) ≡ none ⌝ }
-    ensures { λ r. ⌜ accepted (toldPassCounts r) ≡ passedListed settings (now (script .entry)) prints (now (s .entry)) (now (elected .entry)) .answer ⌝ }
-    ensures { λ _. ⌜ now (s .exit) ≡ passedListed settings (now (script .entry)) prints (now (s .entry)) (now (elected .entry)) .words ⌝ }
-    ensures { λ _. ⌜ now (elected .exit) ≡ passedListed settings (now (script .entry)) prints (now (s .entry)) (now (elected .entry)) .elected ⌝ }
+    ensures { λ r. ⌜ accepted r ≡ passed settings (now (script .entry)) prints (now (s .entry)) .answer ⌝ }
+    ensures { λ _. ⌜ now (s .exit) ≡ passed settings (now (script .entry)) prints (now (s .entry)) .words ⌝ }
+    ensures { λ _. ⌜ now (elected .exit)
+        ≡ written (map electedWords (passed settings (now (script .entry)) prints (now (s .entry)) .elected)) (now (elected .entry)) ⌝ }
 {
     let n = s[0];
     let o = pass(s, n, settings, script, prints, elected);
@@ -206,11 +179,12 @@ pub fn evaluate_pending_stops(
     settings: Settings,
     script: &[u64],
     prints: PrintSegment,
-    elected: &mut [[u64; 13]],
+    elected: &mut [ElectedWords],
 ) -> PassAnswer
-    ensures { λ r. ⌜ toldPass r ≡ passListed settings (now (script .entry)) prints (now (s .entry)) (now (elected .entry)) .answer ⌝ }
-    ensures { λ _. ⌜ now (s .exit) ≡ passListed settings (now (script .entry)) prints (now (s .entry)) (now (elected .entry)) .words ⌝ }
-    ensures { λ _. ⌜ now (elected .exit) ≡ passListed settings (now (script .entry)) prints (now (s .entry)) (now (elected .entry)) .elected ⌝ }
+    ensures { λ r. ⌜ toldPass r ≡ passCall settings (now (script .entry)) prints (now (s .entry)) (length (now (elected .entry))) .answer ⌝ }
+    ensures { λ _. ⌜ now (s .exit) ≡ passCall settings (now (script .entry)) prints (now (s .entry)) (length (now (elected .entry))) .words ⌝ }
+    ensures { λ _. ⌜ now (elected .exit)
+        ≡ written (map electedWords (passCall settings (now (script .entry)) prints (now (s .entry)) (length (now (elected .entry))) .elected)) (now (elected .entry)) ⌝ }
 {
     let verdict = ask_pass(&s[..], script, elected.len());
     match verdict {
@@ -230,12 +204,6 @@ fn next_segment(path: PrintPath, trade: LastPrice, pending: u64) -> NextSegment
     taken.segment
 }
 
-// The answer of a run, and the print path after it.
-pub struct StopRun {
-    pub answer: PassAnswer,
-    pub path: PrintPath,
-}
-
 // A run over path and store: takes the path's segment, up to the last trade, passes, and resets the path. Where nothing is pending or the path is
 // closed it answers zeros and leaves all alone. Refused as a pass is.
 pub fn run_stop_triggers(
@@ -244,12 +212,13 @@ pub fn run_stop_triggers(
     settings: Settings,
     script: &[u64],
     trade: LastPrice,
-    elected: &mut [[u64; 13]],
+    elected: &mut [ElectedWords],
 ) -> StopRun
-    ensures { λ r. ⌜ toldPass (r .answer) ≡ runListed settings (now (script .entry)) trade (now (s .entry)) (now (elected .entry)) path .answer ⌝ }
-    ensures { λ r. ⌜ r .path ≡ runListed settings (now (script .entry)) trade (now (s .entry)) (now (elected .entry)) path .path ⌝ }
-    ensures { λ _. ⌜ now (s .exit) ≡ runListed settings (now (script .entry)) trade (now (s .entry)) (now (elected .entry)) path .words ⌝ }
-    ensures { λ _. ⌜ now (elected .exit) ≡ runListed settings (now (script .entry)) trade (now (s .entry)) (now (elected .entry)) path .elected ⌝ }
+    ensures { λ r. ⌜ toldPass (r .answer) ≡ runCall settings (now (script .entry)) trade (now (s .entry)) (length (now (elected .entry))) path .answer ⌝ }
+    ensures { λ r. ⌜ r .path ≡ runCall settings (now (script .entry)) trade (now (s .entry)) (length (now (elected .entry))) path .path ⌝ }
+    ensures { λ _. ⌜ now (s .exit) ≡ runCall settings (now (script .entry)) trade (now (s .entry)) (length (now (elected .entry))) path .words ⌝ }
+    ensures { λ _. ⌜ now (elected .exit)
+        ≡ written (map electedWords (runCall settings (now (script .entry)) trade (now (s .entry)) (length (now (elected .entry))) path .elected)) (now (elected .entry)) ⌝ }
 {
     let verdict = ask_pass(&s[..], script, elected.len());
     match verdict {

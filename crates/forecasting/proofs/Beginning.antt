@@ -10,8 +10,7 @@ use borrow.Table.Steps.{cases}
 use lib.Dec.{eqb, leb}
 use lib.ListN.{length, take, drop, length-drop}
 use lib.Seq.{getD-take, take-take, take-all, length-take-le}
-use Rattle.book.specs.Calls.{mostPrices}
-use Rattle.book.specs.Words.{mostRecords, storeLength}
+use Rattle.book.specs.Sizes.{mostRecords, storeLength, mostPrices}
 use Rattle.forecasting.specs.Input.{fourAt, wordAt, wordsAt, wordCount, wordsOf, namedLength, storeIn, counted, pricesIn, SameInput}
 use Rattle.forecasting.proofs.Words.{wordsAt-take, wordsOf-length, count-whole, count-none}
 use Rattle.forecasting.proofs.Split.{store-most}

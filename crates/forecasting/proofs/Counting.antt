@@ -7,8 +7,7 @@ use native.Mathlib.Omega.{arith}
 use borrow.Author.Tests.{le-leb, lt-leb, eq-eqb, ne-eqb}
 use lib.Dec.{eqb, leb}
 use lib.ListN.{length}
-use Rattle.book.specs.Calls.{mostPrices}
-use Rattle.book.specs.Words.{mostRecords, storeLength}
+use Rattle.book.specs.Sizes.{mostRecords, storeLength, mostPrices}
 use Rattle.forecasting.specs.Input.{wordAt, wordsAt, wordCount, wordsOf, storeIn, pricesIn}
 use Rattle.forecasting.proofs.Words.{wordsAt-length, count-inside}
 use Rattle.forecasting.proofs.Split.{store-length, store-few, store-words, prices-none, prices-behind, price-words, prices-few}

@@ -9,8 +9,7 @@ use borrow.Author.Tests.{leb-true, leb-false, eqb-true}
 use borrow.Table.Steps.{cases}
 use lib.Dec.{eqb, leb}
 use lib.ListN.{length, getD, take, drop, length-take, length-drop, drop-of-length-le}
-use Rattle.book.specs.Calls.{mostPrices}
-use Rattle.book.specs.Words.{mostRecords, storeLength}
+use Rattle.book.specs.Sizes.{mostRecords, storeLength, mostPrices}
 use Rattle.forecasting.specs.Input.{wordAt, wordsAt, wordCount, wordsOf, namedLength, storeIn, counted, pricesIn}
 use Rattle.forecasting.proofs.Words.{wordsAt-length, wordsOf-length, wordsAt-take, wordsAt-drop}
 

@@ -5,12 +5,11 @@ use mathlib.Core.Bool.{false, cond, _&&_}
 use mathlib.Core.List.{List, [], _∷_, map}
 use lib.Dec.{leb, eqb}
 use lib.ListN.{length, getD, take, drop}
-use Rattle.book.specs.Calls.{mostPrices, WalkOutcome, walkCall}
+use Rattle.book.specs.Calls.{WalkOutcome, walkCall}
 use Rattle.book.specs.declared.LastPrice.the-variants as last
 use Rattle.book.specs.declared.Settings.{Settings}
-use Rattle.book.specs.Words.{mostRecords, storeLength}
-use Rattle.panel.specs.Blanks.{blankElections}
-use Rattle.points.specs.Steps.{toPrice}
+use Rattle.book.specs.Sizes.{mostRecords, storeLength, mostPrices}
+use Rattle.pricelevel.specs.Price.{toPrice}
 use Rattle.stop_protection.specs.declared.Protection.the-variants.{None}
 
 -- four bytes from place p on as a number, the lowest first
@@ -58,6 +57,6 @@ SameInput a b = (storeIn (wordsOf a) ≡ storeIn (wordsOf b)) × (pricesIn (word
 abbrev pub forecastSettings : Settings
 forecastSettings = record { kill = false; protection = None; namespace = record { high = 0; low = 0 } }
 
--- the walk that an input asks for, prev absent, with a list of blank entries
+-- the walk that an input asks for, prev absent, with a list as long as a store has records
 unfoldable pub forecastOf : List ℕ → WalkOutcome
-forecastOf bytes = walkCall forecastSettings last.None (map toPrice (pricesIn (wordsOf bytes))) (storeIn (wordsOf bytes)) blankElections
+forecastOf bytes = walkCall forecastSettings last.None (map toPrice (pricesIn (wordsOf bytes))) (storeIn (wordsOf bytes)) mostRecords

@@ -3,9 +3,9 @@
 // as many as their count.
 mod print;
 
+use book::EvaluationAnswer;
 use book::LastPrice;
 use book::Settings;
-use evaluation::EvaluationAnswer;
 use panel::WalkListing;
 use stop_protection::Protection;
 use uuid::Uuid;
@@ -13,9 +13,10 @@ ghost use mathlib.Core.Path.{_≡_};
 ghost use mathlib.Core.List.{List};
 ghost use Prim.Native.Nat.{ℕ, _+_, _*_, _≤_, _<_, _^_, min};
 ghost use lib.ListN.{length, take};
-ghost use Rattle.book.specs.Calls.{mostPrices};
-ghost use Rattle.book.specs.Words.{mostRecords, storeLength};
-ghost use Rattle.evaluation.specs.Answers.{toldCounts};
+ghost use Rattle.book.specs.Calls.{written};
+ghost use Rattle.book.specs.Sizes.{mostRecords, storeLength, mostPrices};
+ghost use Rattle.book.specs.Answers.{toldCounts};
+ghost use Rattle.panel.specs.Blanks.{blankElections};
 ghost use Rattle.forecasting.specs.Input.{fourAt, wordAt, wordsAt, wordCount, wordsOf, storeIn, pricesIn, forecastSettings, SameInput, forecastOf};
 
 fn wide(b: u8) -> u64
@@ -125,7 +126,7 @@ fn walk_input(bytes: &[u8], store: &mut [u64], prices: &mut [u64]) -> WalkListin
     requires { ⌜ length (now store) ≡ length (storeIn (wordsOf (now bytes))) ⌝ }
     requires { ⌜ length (now prices) ≡ length (pricesIn (wordsOf (now bytes))) ⌝ }
     ensures { λ r. ⌜ toldCounts (r .answer) ≡ forecastOf (now (bytes .entry)) .answer ⌝ }
-    ensures { λ r. ⌜ r .elected ≡ forecastOf (now (bytes .entry)) .elected ⌝ }
+    ensures { λ r. ⌜ r .elected ≡ written (forecastOf (now (bytes .entry)) .elected) blankElections ⌝ }
 {
     let count = word_count(bytes);
     let at = count - prices.len();
@@ -150,7 +151,7 @@ fn most_prices() -> [u64; 4096]
 // bytes are no multiple of 8 (1), of no prices where these are not as many as their count (16).
 pub fn forecast(bytes: &[u8]) -> WalkListing
     ensures { λ r. ⌜ toldCounts (r .answer) ≡ forecastOf (now (bytes .entry)) .answer ⌝ }
-    ensures { λ r. ⌜ r .elected ≡ forecastOf (now (bytes .entry)) .elected ⌝ }
+    ensures { λ r. ⌜ r .elected ≡ written (forecastOf (now (bytes .entry)) .elected) blankElections ⌝ }
 {
     let mut store = longest_store();
     let mut prices = most_prices();

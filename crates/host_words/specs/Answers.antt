@@ -3,6 +3,7 @@ use Prim.Native.Nat.{ℕ}
 use mathlib.Core.Bool.{Bool, cond}
 use mathlib.Core.List.{List, [], _∷_}
 use mathlib.Core.Option.{Option, none, some}
+use mathlib.Core.Path.{_≡_}
 use lib.ListN.{replicate}
 use Rattle.error.specs.Answer.{Answer, refused, accepted}
 use Rattle.pricelevel.specs.Identity.{kindNumber}
@@ -12,8 +13,9 @@ use Rattle.pricelevel.specs.declared.Seq.{Seq}
 use Rattle.repricing.specs.declared.Adjustment.{Adjustment}
 use Rattle.stop_protection.specs.declared.Limit.{Limit}
 use Rattle.stop_terms.specs.declared.StopTerms.{StopTerms}
-use Rattle.book.specs.Calls.{Counts, PassCounts}
-use Rattle.book.specs.Store.{Totals}
+use Rattle.book.specs.declared.Counts.{Counts}
+use Rattle.book.specs.declared.PassCounts.{PassCounts}
+use Rattle.book.specs.declared.Totals.{Totals}
 use Rattle.book.specs.declared.LastPrice.{LastPrice}
 use Rattle.book.specs.declared.LastPrice.the-variants as last
 use Rattle.book.specs.declared.PrintPath.{PrintPath}
@@ -30,6 +32,10 @@ number (accepted x) = 0
 unfoldable pub answered : {A : Type 0} → (A → List ℕ) → Answer A → List ℕ → List ℕ
 answered words (refused k) lent = lent
 answered words (accepted x) lent = words x
+
+-- both: what a call returns, and the lent words of the answer after it
+abbrev pub Told : {A : Type 0} → (A → List ℕ) → Answer A → List ℕ → ℕ → List ℕ → Type 0
+Told words a lent r after = (r ≡ number a) × (after ≡ answered words a lent)
 
 -- the question that an inconsistency answers no, or 0
 unfoldable pub orZero : Option ℕ → ℕ

@@ -12,7 +12,7 @@ use Rattle.book.specs.Words.{cell, recordWord, entryAt}
 use Rattle.book.specs.declared.StopEntry.{StopEntry}
 use Rattle.chains.specs.Links.{Linked}
 use Rattle.chains.specs.Records.{Room, Record}
-use Rattle.store_words.proofs.Search.{From, linked-from}
+use Rattle.chains.proofs.Linking.{From, linked-from}
 use Rattle.listing.proofs.Noting.{Written}
 use Rattle.listing.proofs.Sets.{sets-on}
 

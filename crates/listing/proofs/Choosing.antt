@@ -7,15 +7,16 @@ use mathlib.Core.List.{List, [], _∷_}
 use mathlib.Core.Option.{Option, none, some}
 use borrow.Author.Tests.{ltb-true, ltb-false, lt-ltb}
 use borrow.Table.Steps.{cases}
-use Rattle.book.proofs.Lists.{All, all-map, all-map-both}
-use Rattle.book.proofs.Lookup.{insert-all, sort-all}
+use Rattle.book.proofs.Lists.{all-map, all-map-both}
 use Rattle.book.proofs.Parting.{AllStops}
-use Rattle.book.proofs.Validity.{StopFits}
-use Rattle.book.specs.Book.{Slot, before, Pending, withIndex, gather, insert, sort}
+use Rattle.book.specs.Valid.{StopFits}
+use Rattle.book.specs.Book.{Slot, before, Pending, withIndex, gather, sort, earlierIn}
+use Rattle.book.proofs.Sorting.{insert, insertBy-all, sortBy-all}
 use Rattle.book.specs.declared.Chain.{Chain}
 use Rattle.book.specs.declared.StopEntry.{StopEntry}
 use Rattle.chains.proofs.Ranks.{before-rank}
 use Rattle.chains.specs.Rank.{rank}
+use Rattle.book.specs.Lists.{sortBy, insertBy, All}
 
 module _ (keep : StopEntry → Bool) where
   -- the stops that pass a test
@@ -63,7 +64,7 @@ module _ (c : Chain) where
     ranks-above y g e = ltb-false _ _ (sym (before-rank c (x .entry) (y .entry) f g) ∙ e)
 
     below-first : (l : List Pending) → AllStops (λ t. before c (x .entry) t ≡ true) l → insert c x l ≡ x ∷ l
-    unfolding insert
+    unfolding insertBy
     below-first [] h = refl
     below-first (y ∷ l) h = rw (h .0)
 
@@ -78,29 +79,29 @@ module _ (c : Chain) where
         )
 
     insert-rising : (l : List Pending) → AllStops StopFits l → Rising l → Rising (insert c x l)
-    unfolding insert
+    unfolding insertBy
     insert-rising [] g r = (tt, tt)
     insert-rising (y ∷ l) g r = cases (before c (x .entry) (y .entry))
         (λ e. rw e
         let u = ranks-below y (g .0) e in
         ((omega (arith, u), all-map {P = λ z. rank c (y .entry) ≤ rank c (z .entry)} (λ z v. omega (arith, u, v)) l (r .0)), r))
         (λ e. rw e
-        (insert-all (λ z. rank c (y .entry) ≤ rank c (z .entry)) c x l (ranks-above y (g .0) e) (r .0), insert-rising l (g .1) (r .1)))
+        (insertBy-all (earlierIn c) (λ z. rank c (y .entry) ≤ rank c (z .entry)) x l (ranks-above y (g .0) e) (r .0), insert-rising l (g .1) (r .1)))
 
   sort-rising : (l : List Pending) → AllStops StopFits l → Rising (sort c l)
-  unfolding sort
+  unfolding sortBy
   sort-rising [] g = tt
-  sort-rising (x ∷ l) g = insert-rising x (g .0) (sort c l) (sort-all (λ z. StopFits (z .entry)) c l (g .1)) (sort-rising l (g .1))
+  sort-rising (x ∷ l) g = insert-rising x (g .0) (sort c l) (sortBy-all (earlierIn c) (λ z. StopFits (z .entry)) l (g .1)) (sort-rising l (g .1))
 
   module _ (keep : StopEntry → Bool) where
     chosen-out : (x : Pending) (l : List Pending) → keep (x .entry) ≡ false → chosen keep (insert c x l) ≡ chosen keep l
-    unfolding insert chosen
+    unfolding insertBy chosen
     chosen-out x [] k = rw k
     chosen-out x (y ∷ l) k = cases (before c (x .entry) (y .entry)) (λ e. rw (e, k)) (λ e. rw (e, chosen-out x l k))
 
     chosen-in : (x : Pending) (l : List Pending) → keep (x .entry) ≡ true → StopFits (x .entry) → AllStops StopFits l → Rising l
         → chosen keep (insert c x l) ≡ insert c x (chosen keep l)
-    unfolding insert chosen
+    unfolding insertBy chosen
     chosen-in x [] k f g r = rw k
     chosen-in x (y ∷ l) k f g r = cases (before c (x .entry) (y .entry))
         (λ e. rw (e, k)
@@ -111,10 +112,10 @@ module _ (c : Chain) where
         (λ t. rw (t, chosen-in x l k f (g .1) (r .1)))))
 
     pub chosen-sort : (l : List Pending) → AllStops StopFits l → chosen keep (sort c l) ≡ sort c (chosen keep l)
-    unfolding sort chosen
+    unfolding sortBy chosen
     chosen-sort [] g = refl
     chosen-sort (x ∷ l) g =
-        let h = sort-all (λ z. StopFits (z .entry)) c l (g .1) in
+        let h = sortBy-all (earlierIn c) (λ z. StopFits (z .entry)) l (g .1) in
         cases (keep (x .entry))
         (λ k. rw k (chosen-in x (sort c l) k (g .0) h (sort-rising l (g .1)) ∙ ap (insert c x) (chosen-sort l (g .1))))
         (λ k. rw k (chosen-out x (sort c l) k ∙ chosen-sort l (g .1)))

@@ -14,7 +14,8 @@ use Rattle.pricelevel.specs.declared.Side.the-variants.{Buy, Sell}
 use Rattle.stop_terms.proofs.Terms.{behind-past, behind-irrefl, behind-asym, elects-past}
 use Rattle.stop_terms.specs.Terms.{behind, electedAt}
 use Rattle.stop_terms.specs.declared.StopTerms.{StopTerms}
-use Rattle.book.proofs.Lists.{All, all-of}
+use Rattle.book.proofs.Lists.{all-of}
+use Rattle.book.specs.Lists.{All}
 use Rattle.book.proofs.Parting.{Part, early, late, never, Apart, AllStops, parted, Met, Unmet, stops-apart}
 use Rattle.book.specs.Book.{Slot, vacant, held, chainSide, sideOf, stopOf, watermarkOf, seqOf, lexicographic, before}
 use Rattle.book.specs.Book.{Pending, gather, sort, ofSide, pendingOn, chain, indices}

@@ -1,6 +1,5 @@
 pub mod Along
 pub mod Choosing
-pub mod Completing
 pub mod Leading
 pub mod Listed
 pub mod Noting

@@ -12,11 +12,11 @@ use Rattle.pricelevel.specs.declared.Price.{Price}
 use Rattle.pricelevel.specs.declared.Side.{Side}
 use Rattle.pricelevel.specs.declared.Side.the-variants.{Buy, Sell}
 use Rattle.stop_terms.specs.Terms.{behind}
-use Rattle.book.proofs.Lists.{All}
+use Rattle.book.specs.Lists.{All}
 use Rattle.book.proofs.Parting.{AllStops}
-use Rattle.book.proofs.Steps.{elect, electedIn}
+use Rattle.book.specs.Steps.{elect, electedIn}
 use Rattle.book.proofs.Stops.{trailed-still}
-use Rattle.book.proofs.Validity.{StopFits, SlotFits}
+use Rattle.book.specs.Valid.{StopFits, SlotFits}
 use Rattle.book.specs.Book.{Slot, vacant, held, Book, sideOf, stopOf, Pending, withIndex, gather, sort, ofSide}
 use Rattle.book.specs.Evaluation.{trailed, leavingOn, changedOn, mover, movedEntry, movedOn, fillAt}
 use Rattle.book.specs.declared.Chain.the-variants.{ByStop, ByWatermark}

@@ -23,11 +23,6 @@ module _ {A : Type 0} where
   set-sets (x ∷ xs) l i j a h =
       set-sets xs (set l j x) i (suc j) a (omega arith) ∙ ap (λ m. sets m (suc j) xs) (set-comm l j i x a (λ e. omega arith))
 
-  getD-sets-before : (xs l : List A) (i j : ℕ) (d : A) → i < j → getD (sets l j xs) i d ≡ getD l i d
-  getD-sets-before [] l i j d h = refl
-  getD-sets-before (x ∷ xs) l i j d h =
-      getD-sets-before xs (set l j x) i (suc j) d (omega arith) ∙ getD-set-other l j i x d (λ e. omega arith)
-
   -- a run over another of the same length
   pub sets-over : (xs ys l : List A) (at : ℕ) → length xs ≡ length ys → sets (sets l at xs) at ys ≡ sets l at ys
   sets-over [] [] l at e = refl

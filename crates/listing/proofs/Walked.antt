@@ -9,19 +9,22 @@ use lib.Seq.{sets}
 use Rattle.pricelevel.specs.declared.Price.{Price}
 use Rattle.pricelevel.specs.declared.Side.{Side}
 use Rattle.pricelevel.specs.declared.Side.the-variants.{Buy, Sell}
-use Rattle.book.proofs.Lists.{All, all-map}
+use Rattle.book.proofs.Lists.{all-map}
+use Rattle.book.specs.Lists.{All}
 use Rattle.book.proofs.Lookup.{InBook, chain-in-book}
 use Rattle.book.proofs.Reading.{bookOf-layout}
-use Rattle.book.proofs.Steps.{electedIn}
+use Rattle.book.specs.Steps.{electedIn}
 use Rattle.book.specs.Book.{Book, chainSide, chain}
 use Rattle.book.specs.Evaluation.{movedOn, fillAt}
-use Rattle.book.specs.Words.{headerLength, chainIndices, bookOf}
+use Rattle.book.specs.Words.{chainIndices, bookOf}
+use Rattle.book.specs.Sizes.{headerLength}
 use Rattle.book.specs.declared.Chain.{Chain}
 use Rattle.book.specs.declared.Chain.the-variants.{ByStop, ByWatermark}
 use Rattle.book.specs.declared.StopEntry.{StopEntry}
 use Rattle.chains.proofs.Linking.{linked-length}
-use Rattle.chains.specs.Chained.{of}
-use Rattle.chains.specs.Links.{headOf, linkOf, Linked}
+use Rattle.book.specs.Chains.{headOf, linkOf}
+use Rattle.book.specs.declared.StoreChain.the-variants.{Ordered}
+use Rattle.chains.specs.Links.{Linked}
 use Rattle.chains.specs.Records.{Room}
 use Rattle.pending_stops.proofs.Holding.{stored-holds}
 use Rattle.pending_stops.proofs.Storing.{contents-entry}
@@ -46,7 +49,7 @@ module _ {n : ℕ} {w : List ℕ} {b : Book} {r : List ℕ} (st : Stored n w b r
   stored-book = rw (st .words) (bookOf-layout b r (st .valid))
 
   stored-linked : (c : Chain) → Linked n w (linkOf c) (headOf c) (chainIndices c b)
-  stored-linked c = stored-holds st .chained .linked (of c)
+  stored-linked c = stored-holds st .chained .linked (Ordered c)
 
   stored-room : Room n w
   stored-room = stored-holds st .chained .inside
@@ -84,7 +87,7 @@ module _ {n : ℕ} {w : List ℕ} {b : Book} {r : List ℕ} (st : Stored n w b r
 
   module _ (price : Price) (d : Side) where
     pub moved-walked : walked (watermarkBehind d price) (movesOf price) w (ByWatermark d) ≡ map movedWords (movedOn price d b)
-    unfolding chainIndices chainSide
+    unfolding chainIndices
     moved-walked =
         rw (stored-book st)
         (along-chain (watermarkBehind d price) (movesOf price) w d (ByWatermark d) refl (watermarks-apart d price) (b .slots)
@@ -92,7 +95,7 @@ module _ {n : ℕ} {w : List ℕ} {b : Book} {r : List ℕ} (st : Stored n w b r
         ∙ given-movedOn price d b (st .fits .slots))
 
     pub elected-walked : walked (electedStop price) (fillsOf price) w (ByStop d) ≡ map (λ p. fillWords (fillAt price p)) (electedIn d price b)
-    unfolding chainIndices chainSide
+    unfolding chainIndices
     elected-walked =
         rw (stored-book st)
         (along-chain (electedStop price) (fillsOf price) w d (ByStop d) refl (elected-apart d price) (b .slots) (stored-reads st (ByStop d))

@@ -28,7 +28,7 @@ movedWords m = kindNumber (m .id .kind) ∷ m .id .high ∷ m .id .low ∷ m .st
 -- kind, identity high, identity low, side, stop, quantity, sequence, trigger; the words of limit, child and pending are still zero
 unfoldable pub fillWords : Fill → List ℕ
 fillWords f =
-    let t = f .stop .entry in
+    let t = f .stop in
     kindNumber (t .id .kind) ∷ t .id .high ∷ t .id .low ∷ sideNumber (sideOf t) ∷ stopOf t ∷ t .quantity .0 ∷ seqOf t ∷ f .trigger .0
     ∷ 0 ∷ 0 ∷ 0 ∷ 0 ∷ 0 ∷ []
 
@@ -57,7 +57,7 @@ movesOf price t =
 
 -- its fill, when a trade at the price has elected it
 unfoldable pub fillOf : Price → StopEntry → List ℕ
-fillOf price t = fillWords (record { stop = record { index = 0; entry = t }; trigger = price })
+fillOf price t = fillWords (record { stop = t; trigger = price })
 
 unfoldable pub fillsOf : Price → StopEntry → List (List ℕ)
 fillsOf price t = fillOf price t ∷ []

@@ -4,42 +4,34 @@
 //     moved:   kind high low stop
 //     elected: kind high low side stop quantity seq trigger | limit present, limit, child high, child low, child pending
 use book::Chain;
-use book::Settings;
-use chains::head_of;
-use chains::link_of;
-use chains::word;
-use pricelevel::Id;
+use book::ElectedWords;
+use book::MovedWords;
 use pricelevel::Price;
 use pricelevel::Side;
-use stop_protection::Limit;
+use records::head_of;
+use records::link_of;
+use records::word;
 use stop_terms::is_behind;
-use stop_trigger::stop_trigger_order_id;
-use store_words::entry_at;
-use store_words::find_id;
-use store_words::kind_of;
-use store_words::side_from;
-use store_words::terms_at;
-ghost use mathlib.Core.Bool.{cond};
-ghost use mathlib.Core.List.{List, [], map};
+use stored_stops::entry_at;
+use stored_stops::terms_at;
+ghost use mathlib.Core.List.{List, map};
 ghost use mathlib.Core.Path.{_≡_};
 ghost use Prim.Native.Nat.{ℕ, _+_, _≤_, _<_};
-ghost use lib.ListN.{length, getD, set};
+ghost use lib.ListN.{length, set};
 ghost use lib.Seq.{sets};
-ghost use Rattle.book.proofs.Steps.{electedIn};
+ghost use Rattle.book.specs.Steps.{electedIn};
 ghost use Rattle.book.specs.Book.{Book};
-ghost use Rattle.book.specs.Calls.{electedEntry};
-ghost use Rattle.book.specs.Evaluation.{Fill, movedOn, fillAt};
-ghost use Rattle.book.specs.Store.{isPending};
+ghost use Rattle.book.specs.Evaluation.{movedOn, fillAt};
 ghost use Rattle.book.specs.Words.{entryAt};
 ghost use Rattle.chains.specs.Records.{Record};
-ghost use Rattle.listing.specs.Entries.{movedWords, fillWords, limitPresent, limitWord, electedWords, movesOf, fillOf, completed};
+ghost use Rattle.listing.specs.Entries.{movedWords, fillWords, movesOf, fillOf};
 ghost use Rattle.pending_stops.specs.Stored.{Stored};
 
 // ---------------------------------------------------------------------
 // The stops that a print moves
 
 // Writes the move of the stop in record i, if a trade at the price changes its stop; answers where the list goes on.
-fn list_move(s: &[u64], n: u64, i: u64, price: Price, list: &mut [[u64; 4]], at: usize) -> usize
+fn list_move(s: &[u64], n: u64, i: u64, price: Price, list: &mut [MovedWords], at: usize) -> usize
     requires { ⌜ Record n (now s) i × (at + length (movesOf price (entryAt (now s) i)) ≤ length (now list)) ⌝ }
     ensures { λ r. ⌜ (r ≡ at + length (movesOf price (entryAt (now (s .entry)) i)))
         × (now (list .exit) ≡ sets (now (list .entry)) at (movesOf price (entryAt (now (s .entry)) i))) ⌝ }
@@ -65,7 +57,7 @@ pub fn list_moved(
     n: u64,
     side: Side,
     price: Price,
-    list: &mut [[u64; 4]],
+    list: &mut [MovedWords],
     at: usize,
 ) -> usize
     requires { ⌜ ((b : Book) × (r : List ℕ) × Stored n (now s) b r × (at + length (movedOn price side b) ≤ length (now list))) ⌝ }
@@ -94,7 +86,7 @@ pub fn list_moved(
 // The stops that a print elects
 
 // Writes the fill of the stop in record i at a price; the words of limit, child and pending are zero. Answers where the list goes on.
-fn list_fill(s: &[u64], n: u64, i: u64, price: Price, list: &mut [[u64; 13]], at: usize) -> usize
+fn list_fill(s: &[u64], n: u64, i: u64, price: Price, list: &mut [ElectedWords], at: usize) -> usize
     requires { ⌜ Record n (now s) i × (at < length (now list)) ⌝ }
     ensures { λ r. ⌜ (r ≡ at + 1) × (now (list .exit) ≡ set (now (list .entry)) at (fillOf price (entryAt (now (s .entry)) i))) ⌝ }
 {
@@ -131,7 +123,7 @@ pub fn list_elected(
     n: u64,
     side: Side,
     price: Price,
-    list: &mut [[u64; 13]],
+    list: &mut [ElectedWords],
     at: usize,
 ) -> usize
     requires { ⌜ ((b : Book) × (r : List ℕ) × Stored n (now s) b r × (at + length (electedIn side price b) ≤ length (now list))) ⌝ }
@@ -153,99 +145,4 @@ pub fn list_elected(
         left -= 1;
     }
     m
-}
-
-// ---------------------------------------------------------------------
-// Their limits and child orders
-
-// 1 if there is a limit, else 0.
-fn limit_present(l: Limit) -> u64
-    ensures { λ r. ⌜ r ≡ limitPresent l ⌝ }
-{
-    match l {
-        Limit::None => 0,
-        Limit::At(_) => 1,
-    }
-}
-
-// The price of a limit, 0 for none.
-fn limit_word(l: Limit) -> u64
-    ensures { λ r. ⌜ r ≡ limitWord l ⌝ }
-{
-    match l {
-        Limit::None => 0,
-        Limit::At(price) => price.0,
-    }
-}
-
-// 1 if a stop of this identity is pending, else 0.
-fn pending_word(s: &[u64], n: u64, id: Id) -> u64
-    requires { ⌜ ((b : Book) × (r : List ℕ) × Stored n (now s) b r) ⌝ }
-    ensures { λ k. ⌜ ((b : Book) (r : List ℕ) → Stored n (now (s .entry)) b r → k ≡ cond (isPending id b) 1 0) ⌝ }
-{
-    let i = find_id(s, n, id);
-    if i == 0 {
-        return 0;
-    }
-    1
-}
-
-// Completes the entry at a place, which has the words of a fill.
-fn complete_entry(s: &[u64], n: u64, settings: Settings, list: &mut [[u64; 13]], at: usize)
-    requires { ⌜ ((b : Book) × (r : List ℕ) × Stored n (now s) b r) ⌝ }
-    requires { ⌜ at < length (now list) ⌝ }
-    ensures { λ _. ⌜ ((b : Book) (r : List ℕ) → Stored n (now (s .entry)) b r
-        → now (list .exit) ≡ set (now (list .entry)) at (completed settings b (getD (now (list .entry)) at []))) ⌝ }
-{
-    let e = list[at];
-    let id = Id {
-        kind: kind_of(e[0]),
-        high: e[1],
-        low: e[2],
-    };
-    let protection = settings.protection;
-    let limit = protection.limit(side_from(e[3]), Price(e[4]));
-    let namespace = settings.namespace;
-    let child = stop_trigger_order_id(namespace, id);
-    let pending = pending_word(s, n, child);
-    let present = limit_present(limit);
-    let price = limit_word(limit);
-    list[at] = [
-        e[0],
-        e[1],
-        e[2],
-        e[3],
-        e[4],
-        e[5],
-        e[6],
-        e[7],
-        present,
-        price,
-        child.high,
-        child.low,
-        pending,
-    ];
-}
-
-// Completes the entries from one place to another, which have the words of fills: each with its limit, its child order's identity, and
-// whether that is pending in the store.
-pub fn complete(
-    s: &[u64],
-    n: u64,
-    settings: Settings,
-    list: &mut [[u64; 13]],
-    from: usize,
-    to: usize,
-)
-    requires { ⌜ ((b : Book) × (r : List ℕ) × Stored n (now s) b r) ⌝ }
-    requires { ⌜ to ≤ length (now list) ⌝ }
-    ensures { λ _. ⌜ ((b : Book) (r : List ℕ) (l : List (List ℕ)) (fs : List Fill) → Stored n (now (s .entry)) b r
-        → now (list .entry) ≡ sets l from (map fillWords fs) → to ≡ from + length fs
-        → now (list .exit) ≡ sets (now (list .entry)) from (map (λ f. electedWords (electedEntry settings b f)) fs)) ⌝ }
-{
-    let mut at = from;
-    while at < to {
-        complete_entry(s, n, settings, list, at);
-        at += 1;
-    }
 }

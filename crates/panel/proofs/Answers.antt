@@ -1,7 +1,7 @@
 -- A struct that a call answers is a value of its type where its fields are of theirs.
 use denote.Struct.Laws.{owes}
-use Rattle.admission.specs.declared.Admission.{Admission}
-use Rattle.admission.specs.declared.Cleared.{Cleared}
+use Rattle.book.specs.declared.Admission.{Admission}
+use Rattle.book.specs.declared.Cleared.{Cleared}
 use Rattle.admission.proofs.Admission as admission
 use Rattle.admission.proofs.Admission.Laws as admission′
 use Rattle.admission.proofs.Cleared as cleared

@@ -12,7 +12,7 @@ use denote.Array.{arrayVal}
 use denote.Laws.{Is}
 use denote.Struct.Field.{array-field}
 use denote.Struct.Laws.{lawful, owes, tuple-val}
-use Rattle.book.specs.Words.{mostRecords}
+use Rattle.book.specs.Sizes.{mostRecords}
 use Rattle.book.specs.declared.Elected.{Elected}
 use Rattle.book.specs.declared.Moved.{Moved}
 use Rattle.book.proofs.Elected as elected

@@ -4,7 +4,7 @@ use Prim.Native.Nat.{ℕ, zero, suc, _*_, min}
 use native.Mathlib.Nat.{zero-min, min-zero, suc-min-suc}
 use mathlib.Core.List.{List, [], _∷_}
 use lib.ListN.{length, take, drop, length-replicate}
-use Rattle.book.specs.Words.{mostRecords}
+use Rattle.book.specs.Sizes.{mostRecords}
 use Rattle.panel.specs.Blanks.{blankElected, blankElections, blankMoved, blankMoves}
 
 module _ {X : Type 0} where

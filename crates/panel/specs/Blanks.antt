@@ -7,7 +7,7 @@ use lib.ListN.{replicate}
 use Rattle.pricelevel.specs.declared.IdKind.the-variants.{Uuid}
 use Rattle.pricelevel.specs.declared.Side.the-variants.{Buy}
 use Rattle.stop_protection.specs.declared.Limit.the-variants.{None}
-use Rattle.book.specs.Words.{mostRecords}
+use Rattle.book.specs.Sizes.{mostRecords}
 use Rattle.book.specs.declared.Elected.{Elected}
 use Rattle.book.specs.declared.Moved.{Moved}
 

@@ -1,14 +1,14 @@
 // The calls on lent state, by value: for a program, whose functions then lend no struct and no list of structs.
-use admission::Admission;
-use admission::Cleared;
+use book::Admission;
+use book::Cleared;
 use book::Elected;
+use book::EvaluationAnswer;
 use book::LastPrice;
 use book::Moved;
+use book::PassAnswer;
 use book::PrintPath;
 use book::PrintSegment;
 use book::Settings;
-use evaluation::EvaluationAnswer;
-use evaluation::PassAnswer;
 use pricelevel::Id;
 use pricelevel::IdKind;
 use pricelevel::Price;
@@ -21,17 +21,17 @@ use stop_terms::StopTerms;
 ghost use Prim.Native.Nat.{_≤_, _*_, min};
 ghost use mathlib.Core.List.{map, _++_};
 ghost use mathlib.Core.Path.{_≡_};
-ghost use lib.ListN.{take as firsts, drop};
-ghost use Rattle.admission.specs.Answers.{toldAdmission};
-ghost use Rattle.book.specs.Calls.{segmentCall, walkCall, passCall, runCall};
+ghost use lib.ListN.{length, take as firsts, drop};
+ghost use Rattle.book.specs.Answers.{toldAdmission};
+ghost use Rattle.book.specs.Calls.{written, segmentCall, walkCall, passCall, runCall};
 ghost use Rattle.book.specs.Path.{recorded, closed, take};
 ghost use Rattle.book.specs.Store.{clear, admit};
-ghost use Rattle.book.specs.Words.{mostRecords};
-ghost use Rattle.evaluation.specs.Answers.{toldCounts, toldPass};
+ghost use Rattle.book.specs.Sizes.{mostRecords};
+ghost use Rattle.book.specs.Answers.{toldCounts, toldPass};
 ghost use Rattle.panel.specs.Blanks.{blankElected, blankElections, blankMoved, blankMoves};
-ghost use Rattle.points.specs.Steps.{toPrice};
+ghost use Rattle.pricelevel.specs.Price.{toPrice};
 ghost use Rattle.print_path.specs.Segments.{toldNext};
-ghost use Rattle.store_words.specs.Empty.{toldLayout};
+ghost use Rattle.book.specs.Answers.{toldLayout};
 
 // ---------------------------------------------------------------------
 // The print path
@@ -184,12 +184,12 @@ fn segment_into(
     moved_room: usize,
 ) -> SegmentListing
     requires { ⌜ (room ≤ mostRecords) × («moved_room» ≤ 2 * mostRecords) ⌝ }
-    ensures { λ r. ⌜ toldCounts (r .answer) ≡ segmentCall settings prints (now (s .entry)) (firsts room list) (firsts «moved_room» moves) .answer ⌝ }
+    ensures { λ r. ⌜ toldCounts (r .answer) ≡ segmentCall settings prints (now (s .entry)) (length (firsts room list)) (length (firsts «moved_room» moves)) .answer ⌝ }
     ensures { λ r. ⌜ r .elected
-        ≡ segmentCall settings prints (now (s .entry)) (firsts room list) (firsts «moved_room» moves) .elected ++ drop room list ⌝ }
+        ≡ written (segmentCall settings prints (now (s .entry)) (length (firsts room list)) (length (firsts «moved_room» moves)) .elected) (firsts room list) ++ drop room list ⌝ }
     ensures { λ r. ⌜ r .moved
-        ≡ segmentCall settings prints (now (s .entry)) (firsts room list) (firsts «moved_room» moves) .moved ++ drop «moved_room» moves ⌝ }
-    ensures { λ _. ⌜ now (s .exit) ≡ segmentCall settings prints (now (s .entry)) (firsts room list) (firsts «moved_room» moves) .words ⌝ }
+        ≡ written (segmentCall settings prints (now (s .entry)) (length (firsts room list)) (length (firsts «moved_room» moves)) .moved) (firsts «moved_room» moves) ++ drop «moved_room» moves ⌝ }
+    ensures { λ _. ⌜ now (s .exit) ≡ segmentCall settings prints (now (s .entry)) (length (firsts room list)) (length (firsts «moved_room» moves)) .words ⌝ }
 {
     let mut elected = list;
     let mut moved = moves;
@@ -217,15 +217,13 @@ pub fn segment(
     moved_room: usize,
 ) -> SegmentListing
     ensures { λ r. ⌜ toldCounts (r .answer)
-        ≡ segmentCall settings prints (now (s .entry)) (firsts room blankElections) (firsts «moved_room» blankMoves) .answer ⌝ }
+        ≡ segmentCall settings prints (now (s .entry)) (length (firsts room blankElections)) (length (firsts «moved_room» blankMoves)) .answer ⌝ }
     ensures { λ r. ⌜ r .elected
-        ≡ segmentCall settings prints (now (s .entry)) (firsts room blankElections)
-        (firsts «moved_room» blankMoves) .elected ++ drop room blankElections ⌝ }
+        ≡ written (segmentCall settings prints (now (s .entry)) (length (firsts room blankElections)) (length (firsts «moved_room» blankMoves)) .elected) (firsts room blankElections) ++ drop room blankElections ⌝ }
     ensures { λ r. ⌜ r .moved
-        ≡ segmentCall settings prints (now (s .entry)) (firsts room blankElections)
-        (firsts «moved_room» blankMoves) .moved ++ drop «moved_room» blankMoves ⌝ }
+        ≡ written (segmentCall settings prints (now (s .entry)) (length (firsts room blankElections)) (length (firsts «moved_room» blankMoves)) .moved) (firsts «moved_room» blankMoves) ++ drop «moved_room» blankMoves ⌝ }
     ensures { λ _. ⌜ now (s .exit)
-        ≡ segmentCall settings prints (now (s .entry)) (firsts room blankElections) (firsts «moved_room» blankMoves) .words ⌝ }
+        ≡ segmentCall settings prints (now (s .entry)) (length (firsts room blankElections)) (length (firsts «moved_room» blankMoves)) .words ⌝ }
 {
     let list = blank_elections();
     let moves = blank_moves();
@@ -251,10 +249,10 @@ fn walk_into(
 ) -> WalkListing
     requires { ⌜ room ≤ mostRecords ⌝ }
     ensures { λ r. ⌜ toldCounts (r .answer)
-        ≡ walkCall settings prev (map toPrice (now (prices .entry))) (now (s .entry)) (firsts room list) .answer ⌝ }
+        ≡ walkCall settings prev (map toPrice (now (prices .entry))) (now (s .entry)) (length (firsts room list)) .answer ⌝ }
     ensures { λ r. ⌜ r .elected
-        ≡ walkCall settings prev (map toPrice (now (prices .entry))) (now (s .entry)) (firsts room list) .elected ++ drop room list ⌝ }
-    ensures { λ _. ⌜ now (s .exit) ≡ walkCall settings prev (map toPrice (now (prices .entry))) (now (s .entry)) (firsts room list) .words ⌝ }
+        ≡ written (walkCall settings prev (map toPrice (now (prices .entry))) (now (s .entry)) (length (firsts room list)) .elected) (firsts room list) ++ drop room list ⌝ }
+    ensures { λ _. ⌜ now (s .exit) ≡ walkCall settings prev (map toPrice (now (prices .entry))) (now (s .entry)) (length (firsts room list)) .words ⌝ }
 {
     let mut elected = list;
     let answer = stop_orders::walk(s, settings, prev, prices, &mut elected[..room]);
@@ -274,12 +272,11 @@ pub fn walk(
     room: usize,
 ) -> WalkListing
     ensures { λ r. ⌜ toldCounts (r .answer)
-        ≡ walkCall settings prev (map toPrice (now (prices .entry))) (now (s .entry)) (firsts room blankElections) .answer ⌝ }
+        ≡ walkCall settings prev (map toPrice (now (prices .entry))) (now (s .entry)) (length (firsts room blankElections)) .answer ⌝ }
     ensures { λ r. ⌜ r .elected
-        ≡ walkCall settings prev (map toPrice (now (prices .entry))) (now (s .entry))
-        (firsts room blankElections) .elected ++ drop room blankElections ⌝ }
+        ≡ written (walkCall settings prev (map toPrice (now (prices .entry))) (now (s .entry)) (length (firsts room blankElections)) .elected) (firsts room blankElections) ++ drop room blankElections ⌝ }
     ensures { λ _. ⌜ now (s .exit)
-        ≡ walkCall settings prev (map toPrice (now (prices .entry))) (now (s .entry)) (firsts room blankElections) .words ⌝ }
+        ≡ walkCall settings prev (map toPrice (now (prices .entry))) (now (s .entry)) (length (firsts room blankElections)) .words ⌝ }
 {
     let list = blank_elections();
     let k = least(room, 700);
@@ -302,9 +299,9 @@ fn pass_into(
     room: usize,
 ) -> PassListing
     requires { ⌜ room ≤ mostRecords ⌝ }
-    ensures { λ r. ⌜ toldPass (r .answer) ≡ passCall settings (now (script .entry)) prints (now (s .entry)) (firsts room list) .answer ⌝ }
-    ensures { λ r. ⌜ r .elected ≡ passCall settings (now (script .entry)) prints (now (s .entry)) (firsts room list) .elected ++ drop room list ⌝ }
-    ensures { λ _. ⌜ now (s .exit) ≡ passCall settings (now (script .entry)) prints (now (s .entry)) (firsts room list) .words ⌝ }
+    ensures { λ r. ⌜ toldPass (r .answer) ≡ passCall settings (now (script .entry)) prints (now (s .entry)) (length (firsts room list)) .answer ⌝ }
+    ensures { λ r. ⌜ r .elected ≡ written (passCall settings (now (script .entry)) prints (now (s .entry)) (length (firsts room list)) .elected) (firsts room list) ++ drop room list ⌝ }
+    ensures { λ _. ⌜ now (s .exit) ≡ passCall settings (now (script .entry)) prints (now (s .entry)) (length (firsts room list)) .words ⌝ }
 {
     let mut elected = list;
     let answer = stop_orders::evaluate_pending_stops(
@@ -331,11 +328,11 @@ pub fn evaluate_pending_stops(
     room: usize,
 ) -> PassListing
     ensures { λ r. ⌜ toldPass (r .answer)
-        ≡ passCall settings (now (script .entry)) prints (now (s .entry)) (firsts room blankElections) .answer ⌝ }
+        ≡ passCall settings (now (script .entry)) prints (now (s .entry)) (length (firsts room blankElections)) .answer ⌝ }
     ensures { λ r. ⌜ r .elected
-        ≡ passCall settings (now (script .entry)) prints (now (s .entry)) (firsts room blankElections) .elected ++ drop room blankElections ⌝ }
+        ≡ written (passCall settings (now (script .entry)) prints (now (s .entry)) (length (firsts room blankElections)) .elected) (firsts room blankElections) ++ drop room blankElections ⌝ }
     ensures { λ _. ⌜ now (s .exit)
-        ≡ passCall settings (now (script .entry)) prints (now (s .entry)) (firsts room blankElections) .words ⌝ }
+        ≡ passCall settings (now (script .entry)) prints (now (s .entry)) (length (firsts room blankElections)) .words ⌝ }
 {
     let list = blank_elections();
     let k = least(room, 700);
@@ -360,10 +357,10 @@ fn run_into(
     room: usize,
 ) -> RunListing
     requires { ⌜ room ≤ mostRecords ⌝ }
-    ensures { λ r. ⌜ toldPass (r .answer) ≡ runCall settings (now (script .entry)) trade (now (s .entry)) (firsts room list) path .answer ⌝ }
-    ensures { λ r. ⌜ r .path ≡ runCall settings (now (script .entry)) trade (now (s .entry)) (firsts room list) path .path ⌝ }
-    ensures { λ r. ⌜ r .elected ≡ runCall settings (now (script .entry)) trade (now (s .entry)) (firsts room list) path .elected ++ drop room list ⌝ }
-    ensures { λ _. ⌜ now (s .exit) ≡ runCall settings (now (script .entry)) trade (now (s .entry)) (firsts room list) path .words ⌝ }
+    ensures { λ r. ⌜ toldPass (r .answer) ≡ runCall settings (now (script .entry)) trade (now (s .entry)) (length (firsts room list)) path .answer ⌝ }
+    ensures { λ r. ⌜ r .path ≡ runCall settings (now (script .entry)) trade (now (s .entry)) (length (firsts room list)) path .path ⌝ }
+    ensures { λ r. ⌜ r .elected ≡ written (runCall settings (now (script .entry)) trade (now (s .entry)) (length (firsts room list)) path .elected) (firsts room list) ++ drop room list ⌝ }
+    ensures { λ _. ⌜ now (s .exit) ≡ runCall settings (now (script .entry)) trade (now (s .entry)) (length (firsts room list)) path .words ⌝ }
 {
     let mut p = path;
     let mut elected = list;
@@ -393,13 +390,13 @@ pub fn run_stop_triggers(
     room: usize,
 ) -> RunListing
     ensures { λ r. ⌜ toldPass (r .answer)
-        ≡ runCall settings (now (script .entry)) trade (now (s .entry)) (firsts room blankElections) path .answer ⌝ }
+        ≡ runCall settings (now (script .entry)) trade (now (s .entry)) (length (firsts room blankElections)) path .answer ⌝ }
     ensures { λ r. ⌜ r .path
-        ≡ runCall settings (now (script .entry)) trade (now (s .entry)) (firsts room blankElections) path .path ⌝ }
+        ≡ runCall settings (now (script .entry)) trade (now (s .entry)) (length (firsts room blankElections)) path .path ⌝ }
     ensures { λ r. ⌜ r .elected
-        ≡ runCall settings (now (script .entry)) trade (now (s .entry)) (firsts room blankElections) path .elected ++ drop room blankElections ⌝ }
+        ≡ written (runCall settings (now (script .entry)) trade (now (s .entry)) (length (firsts room blankElections)) path .elected) (firsts room blankElections) ++ drop room blankElections ⌝ }
     ensures { λ _. ⌜ now (s .exit)
-        ≡ runCall settings (now (script .entry)) trade (now (s .entry)) (firsts room blankElections) path .words ⌝ }
+        ≡ runCall settings (now (script .entry)) trade (now (s .entry)) (length (firsts room blankElections)) path .words ⌝ }
 {
     let list = blank_elections();
     let k = least(room, 700);

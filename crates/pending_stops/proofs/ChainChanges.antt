@@ -15,18 +15,21 @@ use Rattle.pricelevel.specs.declared.Side.{Side}
 use Rattle.book.proofs.Lists.{all-mapped}
 use Rattle.book.proofs.Lookup.{Gathered, gather-gathered}
 use Rattle.book.proofs.Operations.{vacated-fits}
-use Rattle.book.proofs.Validity.{Valid, Fits}
+use Rattle.book.specs.Valid.{Valid, Fits}
 use Rattle.book.specs.Book.{Slot, vacant, held, Book, chainSide, sideOf, withIndex, gather, pendingOn, indices}
 use Rattle.book.specs.Store.{vacated}
 use Rattle.book.specs.Words.{chainIndices}
 use Rattle.book.specs.declared.Chain.{Chain}
 use Rattle.book.specs.declared.StopEntry.{StopEntry}
 use Rattle.chains.proofs.Members.{has-none, has-cases, has-all, all-has, has-remove, remove-here, remove-there, remove-absent}
-use Rattle.chains.proofs.Sorting.{RanksDiffer, has-sortBy, sortBy-out, sortBy-cong, remove-insertBy}
-use Rattle.chains.specs.Indices.{insertBy, sortBy, remove, has}
-use Rattle.form.proofs.Ascending as ascending
-use Rattle.form.proofs.Groups.{members-ranks}
-use Rattle.form.proofs.Members.{members, rankOfSlot, rankIn, Member, members-held, held-member, chain-members}
+use Rattle.chains.proofs.Sorting.{has-sortRanked, sortRanked-out, sortRanked-cong, remove-insertRanked}
+use Rattle.chains.specs.Indices.{insertRanked, sortRanked, remove, has, RanksDiffer}
+use Rattle.chains.proofs.Ascending.{Apart, differ-members}
+use Rattle.book.proofs.Sorting.{Pairwise}
+use Rattle.form_check.proofs.Groups.{members-ranks}
+use Rattle.chains.proofs.Ranked.{rankOfSlot, rankIn, chain-members}
+use Rattle.book.proofs.Members.{members, members-held, held-member}
+use Rattle.book.specs.Chains.{Member}
 
 ------------------------------------------------------------------------
 -- The members of a side
@@ -72,14 +75,6 @@ vacant-absent side ss i m =
 ------------------------------------------------------------------------
 -- The ranks of stops differ
 
-differ-members : (rk : ℕ → ℕ) (l : List ℕ) → ascending.RanksDiffer rk l → RanksDiffer rk l
-differ-members rk [] d i j hi hj e = absurd (has-none i hi)
-differ-members rk (k ∷ l) d i j hi hj e =
-    let Apart : ℕ → Type 0 = λ m. rk k ≡ rk m → ⊥ in
-    has-cases i k l hi
-    (λ p. has-cases j k l hj (λ q. sym p ∙ q) (λ t. absurd (all-has Apart l (d .0) j t (rw p e))))
-    (λ s. has-cases j k l hj (λ q. absurd (all-has Apart l (d .0) i s (rw q (sym e)))) (λ t. differ-members rk l (d .1) i j s t e))
-
 ranks-differ : (c : Chain) (b : Book) → Valid b → Fits b → RanksDiffer (rankIn c (b .slots)) (members (chainSide c) 1 (b .slots))
 ranks-differ c b v f = differ-members (rankIn c (b .slots)) (members (chainSide c) 1 (b .slots)) (members-ranks c (b .slots) (v .differ) (f .slots))
 
@@ -89,10 +84,10 @@ ranks-differ c b v f = differ-members (rankIn c (b .slots)) (members (chainSide 
 module _ (c : Chain) (b : Book) (f : Fits b) (i : ℕ) where
   pub chain-member : T (has i (chainIndices c b)) → Member (chainSide c) (b .slots) i
   chain-member h =
-      has-member (chainSide c) (b .slots) i (rw (chain-members c b (f .slots), has-sortBy) at h)
+      has-member (chainSide c) (b .slots) i (rw (chain-members c b (f .slots), has-sortRanked) at h)
 
   pub member-chain : Member (chainSide c) (b .slots) i → T (has i (chainIndices c b))
-  member-chain m = rw (chain-members c b (f .slots), has-sortBy) (member-has (chainSide c) (b .slots) i m)
+  member-chain m = rw (chain-members c b (f .slots), has-sortRanked) (member-has (chainSide c) (b .slots) i m)
 
 -- a vacated record is in no chain
 pub vacated-absent : (c : Chain) (b : Book) (f : Fits b) (i : ℕ) → T (has i (chainIndices c (vacated i b))) → ⊥
@@ -115,11 +110,11 @@ module _ (c : Chain) (b : Book) (v : Valid b) (f : Fits b) (i : ℕ) (from : 1 �
   out-absent : T (has i (remove i here)) → ⊥
   out-absent h = vacant-absent (chainSide c) (b .slots) i (has-member (chainSide c) (set (b .slots) (i - 1) vacant) i (rw members-out h))
 
-  out-chain : chainIndices c (vacated i b) ≡ sortBy ranked (remove i here)
+  out-chain : chainIndices c (vacated i b) ≡ sortRanked ranked (remove i here)
   unfolding vacated
   out-chain =
       rw (chain-members c (vacated i b) (vacated-fits i b f .slots), members-out)
-      (sortBy-cong (rankIn c (set (b .slots) (i - 1) vacant)) ranked (remove i here) same)
+      (sortRanked-cong (rankIn c (set (b .slots) (i - 1) vacant)) ranked (remove i here) same)
     where
       same : (j : ℕ) → T (has j (remove i here)) → rankIn c (set (b .slots) (i - 1) vacant) j ≡ ranked j
       same j h =
@@ -132,17 +127,17 @@ module _ (c : Chain) (b : Book) (v : Valid b) (f : Fits b) (i : ℕ) (from : 1 �
   pub chain-out : chainIndices c (vacated i b) ≡ remove i (chainIndices c b)
   chain-out = out-chain ∙ rw (chain-members c b (f .slots)) (cases (has i here)
       (λ e.
-      rw (sortBy-out ranked i here (rw e tt) (ranks-differ c b v f))
-      (sym (remove-insertBy ranked i (sortBy ranked (remove i here)) (λ h. out-absent (rw (has-sortBy ranked i (remove i here)) at h)))))
+      rw (sortRanked-out ranked i here (rw e tt) (ranks-differ c b v f))
+      (sym (remove-insertRanked ranked i (sortRanked ranked (remove i here)) (λ h. out-absent (rw (has-sortRanked ranked i (remove i here)) at h)))))
       (λ e.
       rw (remove-absent i here (λ h. rw e at h))
-      (sym (remove-absent i (sortBy ranked here) (λ h. rw (has-sortBy ranked i here, e) at h)))))
+      (sym (remove-absent i (sortRanked ranked here) (λ h. rw (has-sortRanked ranked i here, e) at h)))))
 
   -- a stop is in the chains of its side at its rank
-  pub chain-in : Member (chainSide c) (b .slots) i → chainIndices c b ≡ insertBy (rankIn c (b .slots)) i (chainIndices c (vacated i b))
+  pub chain-in : Member (chainSide c) (b .slots) i → chainIndices c b ≡ insertRanked (rankIn c (b .slots)) i (chainIndices c (vacated i b))
   chain-in m =
-      chain-members c b (f .slots) ∙ sortBy-out ranked i here (member-has (chainSide c) (b .slots) i m) (ranks-differ c b v f)
-      ∙ ap (insertBy ranked i) (sym out-chain)
+      chain-members c b (f .slots) ∙ sortRanked-out ranked i here (member-has (chainSide c) (b .slots) i m) (ranks-differ c b v f)
+      ∙ ap (insertRanked ranked i) (sym out-chain)
 
   -- and in no other
   pub chain-other : (t : StopEntry) → getD (b .slots) (i - 1) vacant ≡ held t → chainSide c ≢ sideOf t → chainIndices c (vacated i b) ≡ chainIndices c b

@@ -12,10 +12,11 @@ use Rattle.book.proofs.Lookup.{InBook, lookup-found}
 use Rattle.book.proofs.WellFormed.{wellFormed-valid, wellFormed-fits, wellFormed-layout, bookOf-slots-length}
 use Rattle.book.specs.Book.{Book, Pending, sideOf, pendingCount}
 use Rattle.book.specs.Store.{stored, storedBook, lookup}
-use Rattle.book.specs.Words.{storeLength, entryAt, bookOf, wellFormed}
+use Rattle.book.specs.Words.{entryAt, bookOf, wellFormed}
+use Rattle.book.specs.Sizes.{storeLength}
 use Rattle.book.specs.declared.StopEntry.{StopEntry}
 use Rattle.chains.specs.Records.{Room, Record}
-use Rattle.form.proofs.Members.{Member}
+use Rattle.book.specs.Chains.{Member}
 use Rattle.store_words.proofs.ChainsOf.{wellFormed-room}
 use Rattle.store_words.specs.Search.{indexOr0}
 use Rattle.pending_stops.proofs.Holding.{stored-holds}

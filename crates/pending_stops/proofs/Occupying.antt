@@ -10,8 +10,8 @@ use Rattle.pricelevel.specs.declared.Id.{Id}
 use Rattle.pricelevel.specs.declared.Quantity.{Quantity}
 use Rattle.stop_terms.specs.declared.StopTerms.{StopTerms}
 use Rattle.book.proofs.FreeChain.{VacantFrom, free-count}
-use Rattle.book.proofs.Operations.{Admissible, admitted-valid, admitted-fits, admitted-count}
-use Rattle.book.proofs.Validity.{Valid, StopFits, Fits}
+use Rattle.book.proofs.Operations.{admitted-valid, admitted-fits, admitted-count}
+use Rattle.book.specs.Valid.{Valid, StopFits, Fits, Admissible}
 use Rattle.book.specs.Book.{Slot, vacant, held, Book, pendingCount}
 use Rattle.book.specs.Lists.{headOr0}
 use Rattle.book.specs.Store.{admitted, newEntry}
@@ -19,14 +19,17 @@ use Rattle.book.specs.Words.{cell}
 use Rattle.book.specs.declared.StopEntry.{StopEntry}
 use Rattle.chains.proofs.Chained.{chained-set-header}
 use Rattle.chains.proofs.Members.{has-here}
-use Rattle.chains.specs.Chained.{Name, free, Chained, Kept, Ready, upd, within}
+use Rattle.chains.specs.Chained.{Chained, Kept, Ready, upd, within}
+use Rattle.book.specs.declared.StoreChain.{StoreChain}
+use Rattle.book.specs.declared.StoreChain.the-variants.{Free}
 use Rattle.chains.specs.Records.{Record}
 use Rattle.pending_stops.proofs.Entering.{entered-ready, entered-stored}
-use Rattle.pending_stops.proofs.Holding.{Contents, chainsOf, free-vacant, stored-holds}
+use Rattle.pending_stops.proofs.Holding.{free-vacant, stored-holds}
+use Rattle.book.specs.Chains.{chainsOf}
 use Rattle.pending_stops.proofs.Placing.{chainsWithout, chainsWithout-vacant, ready-same}
-use Rattle.pending_stops.proofs.Storing.{contents-kept, contents-numbers, contents-count, contents-next}
+use Rattle.pending_stops.proofs.Storing.{recordOf, contents-kept, contents-numbers, contents-count, contents-next}
 use Rattle.pending_stops.proofs.Vacating.{ready-record, stored-room}
-use Rattle.pending_stops.specs.Stored.{Stored, dataWords}
+use Rattle.pending_stops.specs.Stored.{Stored, Contents}
 
 module _ (n : ℕ) (w : List ℕ) (b : Book) (r : List ℕ) (st : Stored n w b r) (room : pendingCount (b .slots) < length (b .slots)) where
   pub free-first : b .free ≡ headOr0 (b .free) ∷ drop 1 (b .free)
@@ -65,11 +68,11 @@ module _ (n : ℕ) (w : List ℕ) (b : Book) (r : List ℕ) (st : Stored n w b r
 module _ (n : ℕ) (w : List ℕ) (b : Book) (r : List ℕ) (st : Stored n w b r) (id : Id) (terms : StopTerms) (quantity : Quantity)
     (a : Admissible (newEntry id terms quantity b) b)
     (w2 : List ℕ) (k2 : Kept n (w1 n w b r st (a .room)) w2) (i : ℕ)
-    (p2 : (ch : Name → List ℕ) (j : ℕ) (l : List ℕ) → Chained n (w1 n w b r st (a .room)) ch → ch free ≡ j ∷ l → (i ≡ j) × Ready n w2 (upd free l ch) j) where
+    (p2 : (ch : StoreChain → List ℕ) (j : ℕ) (l : List ℕ) → Chained n (w1 n w b r st (a .room)) ch → ch Free ≡ j ∷ l → (i ≡ j) × Ready n w2 (upd Free l ch) j) where
   abbrev t : StopEntry
   t = newEntry id terms quantity b
 
-  popped : (i ≡ headOr0 (b .free)) × Ready n w2 (upd free (drop 1 (b .free)) (chainsOf b)) (headOr0 (b .free))
+  popped : (i ≡ headOr0 (b .free)) × Ready n w2 (upd Free (drop 1 (b .free)) (chainsOf b)) (headOr0 (b .free))
   popped = p2 (chainsOf b) (headOr0 (b .free)) (drop 1 (b .free)) (occupying-chained n w b r st (a .room)) (free-first n w b r st (a .room))
 
   slots-before : b .slots ≡ set (admitted t b .slots) (i - 1) vacant
@@ -81,7 +84,7 @@ module _ (n : ℕ) (w : List ℕ) (b : Book) (r : List ℕ) (st : Stored n w b r
   ready2 : Ready n w2 (chainsWithout i (admitted t b)) i
   unfolding admitted
   ready2 =
-      ready-same n w2 i (upd free (drop 1 (b .free)) (chainsOf b)) (chainsWithout i (admitted t b)) (chainsWithout-vacant b (admitted t b) i slots-before)
+      ready-same n w2 i (upd Free (drop 1 (b .free)) (chainsOf b)) (chainsWithout i (admitted t b)) (chainsWithout-vacant b (admitted t b) i slots-before)
       (rw (popped .0) (popped .1))
 
   pub occupying-record : Record n w2 i
@@ -101,8 +104,8 @@ module _ (n : ℕ) (w : List ℕ) (b : Book) (r : List ℕ) (st : Stored n w b r
   unfolding newEntry
   new-entry = rw (next-word n w b r st (a .room))
 
-  module _ (w3 : List ℕ) (e3 : w3 ≡ sets w2 (cell i 0) (dataWords (held (record { id = id; terms = terms; quantity = quantity; seq = record { 0 = getD w 2 0 } })))) where
-    entry-words : w3 ≡ sets w2 (cell i 0) (dataWords (held t))
+  module _ (w3 : List ℕ) (e3 : w3 ≡ sets w2 (cell i 0) (recordOf (held (record { id = id; terms = terms; quantity = quantity; seq = record { 0 = getD w 2 0 } })) 0 0)) where
+    entry-words : w3 ≡ sets w2 (cell i 0) (recordOf (held t) 0 0)
     entry-words = rw new-entry e3
 
     pub occupying-ready : Ready n w3 (chainsWithout i (admitted t b)) i
@@ -112,7 +115,7 @@ module _ (n : ℕ) (w : List ℕ) (b : Book) (r : List ℕ) (st : Stored n w b r
     occupied-length w4 k4 = k4 .size ∙ rw (e3, length-sets) (k2 .size ∙ simp length-set)
 
     pub occupied-stored : StopFits t → b .next + 1 < 2 ^ 64 → (w4 : List ℕ) → Kept n w3 w4
-        → ((ch : Name → List ℕ) → Ready n w3 ch i → Chained n w4 (within (terms .side) w3 i ch)) → Stored n w4 (admitted t b) r
+        → ((ch : StoreChain → List ℕ) → Ready n w3 ch i → Chained n w4 (within (terms .side) w3 i ch)) → Stored n w4 (admitted t b) r
     unfolding newEntry
     occupied-stored g last w4 k4 p4 =
         entered-stored n w2 (admitted t b) r (admitted-valid t b (st .valid) a) (admitted-fits t b (st .fits) g last) i t (b .slots) entry-slots contents2 ready2 w3 entry-words

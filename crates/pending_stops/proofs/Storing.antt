@@ -9,32 +9,32 @@ use borrow.Table.Steps.{cases}
 use lib.Dec.{eqb}
 use lib.ListN.{length, getD, set, drop, length-set}
 use lib.Seq.{getD-set-same, getD-set-other, drop-set-lt, sets}
-use Rattle.pricelevel.specs.declared.Side.the-variants.{Sell}
+use Rattle.book.proofs.Places.{dataWords-length, slot-long, withLinks-length, withLinks-data}
 use Rattle.book.proofs.Reading.{kindOf-number, sideFrom-number}
 use Rattle.book.specs.Book.{Slot, vacant, held}
-use Rattle.book.specs.Words.{recordLength, storeLength, cell, recordWord, kindOf, sideFrom, entryAt}
+use Rattle.book.specs.Words.{cell, recordWord, kindOf, sideFrom, entryAt, dataWords, withLinks, dataWord}
+use Rattle.book.specs.Sizes.{recordLength, storeLength, IsData}
 use Rattle.book.specs.declared.Chain.{Chain}
-use Rattle.book.specs.declared.Chain.the-variants.{ByWatermark}
 use Rattle.book.specs.declared.StopEntry.{StopEntry}
 use Rattle.chains.proofs.Cells.{cell-least}
 use Rattle.chains.proofs.Data.{sets-word, sets-word-other, sets-header, sets-beyond}
-use Rattle.chains.proofs.Kept.{isLink-cell, kept-set}
-use Rattle.chains.specs.Chained.{of, Kept}
+use Rattle.chains.specs.Chained.{Kept}
 use Rattle.chains.specs.Rank.{rank, rankAt}
-use Rattle.chains.specs.Records.{dataLength, Record}
-use Rattle.form.proofs.Members.{rankIn}
-use Rattle.pending_stops.proofs.Holding.{Contents}
-use Rattle.pending_stops.specs.Stored.{dataWords}
+use Rattle.chains.specs.Records.{Record}
+use Rattle.chains.proofs.Ranked.{rankIn}
+use Rattle.pending_stops.specs.Stored.{Contents}
 
-pub dataWords-length : (s : Slot) → length (dataWords s) ≡ dataLength
-unfolding dataWords
-dataWords-length vacant = refl
-dataWords-length (held t) = refl
+-- the words that are written to a record
+abbrev pub recordOf : Slot → ℕ → ℕ → List ℕ
+recordOf s a c = withLinks (dataWords s) a c
+
+pub recordOf-length : (s : Slot) (a c : ℕ) → length (recordOf s a c) ≡ recordLength
+recordOf-length s a c = omega (arith, withLinks-length (dataWords s) (slot-long s) a c, dataWords-length s)
 
 module _ {n : ℕ} {w : List ℕ} {count next tick : ℕ} {ss : List Slot} {r : List ℕ} (h : Contents n w count next tick ss r) where
   -- where the header's first words stay
   same-header : (v : List ℕ) (ss' : List Slot) → length ss' ≡ n → ((k : ℕ) → k < 4 → getD v k 0 ≡ getD w k 0)
-      → ((i k : ℕ) → 1 ≤ i → i ≤ n → k < dataLength → recordWord v i k ≡ getD (dataWords (getD ss' (i - 1) vacant)) k 0)
+      → ((i k : ℕ) → 1 ≤ i → i ≤ n → IsData k → recordWord v i k ≡ dataWord (getD ss' (i - 1) vacant) k)
       → drop (storeLength n) v ≡ drop (storeLength n) w → Contents n v count next tick ss' r
   same-header v ss' size header words beyond = record {
     records = size;
@@ -88,31 +88,38 @@ module _ {n : ℕ} {w : List ℕ} {count next tick : ℕ} {ss : List Slot} {r : 
     beyond = drop-set-lt (storeLength n) w 2 x (omega arith) ∙ h .beyond;
   }
 
-  -- a link by watermark
-  pub contents-link : (i x : ℕ) → 1 ≤ i → i ≤ n → Contents n (set w (cell i 10) x) count next tick ss r
-  contents-link i x least most = contents-kept (set w (cell i 10) x) (kept-set n w (cell i 10) x (isLink-cell n (of (ByWatermark Sell)) i least most))
-
-  -- the data words of a record
-  pub contents-data : (i : ℕ) → Record n w i → (s : Slot) → Contents n (sets w (cell i 0) (dataWords s)) count next tick (set ss (i - 1) s) r
-  contents-data i at s =
-      let few : length (dataWords s) ≤ recordLength = omega (arith, dataWords-length s) in
-      same-header (sets w (cell i 0) (dataWords s)) (set ss (i - 1) s) (length-set ss (i - 1) s ∙ h .records)
-      (λ k l. sets-header n w i (dataWords s) few k (omega arith))
-      (λ j k low high l. cases (eqb j i)
+  -- record i holds another slot, and all else stays
+  pub contents-changed : (v : List ℕ) (i : ℕ) → 1 ≤ i → i ≤ n → (s : Slot) → ((k : ℕ) → k < 4 → getD v k 0 ≡ getD w k 0)
+      → ((k : ℕ) → IsData k → recordWord v i k ≡ dataWord s k)
+      → ((j k : ℕ) → 1 ≤ j → IsData k → j ≢ i → recordWord v j k ≡ recordWord w j k)
+      → drop (storeLength n) v ≡ drop (storeLength n) w → Contents n v count next tick (set ss (i - 1) s) r
+  contents-changed v i least most s header own others beyond =
+      same-header v (set ss (i - 1) s) (length-set ss (i - 1) s ∙ h .records) header
+      (λ j k low high d. cases (eqb j i)
       (λ e.
-      rw (eqb-true j i e, getD-set-same ss (i - 1) s vacant (omega (arith, at .least, at .most, h .records)))
-      (sets-word n w i (dataWords s) few at k (rw (dataWords-length s) l)))
+      rw (eqb-true j i e, getD-set-same ss (i - 1) s vacant (omega (arith, h .records))) (own k d))
       (λ e.
       let ne = eqb-false j i e in
-      rw (getD-set-other ss (i - 1) (j - 1) s vacant (λ q. ne (omega (arith, at .least))))
-      (sets-word-other n w i (dataWords s) few j k (at .least) low (omega arith) (λ q. absurd (ne q)) ∙ h .words j k low high l)))
-      (sets-beyond n w i (dataWords s) few (at .least) (at .most))
+      rw (getD-set-other ss (i - 1) (j - 1) s vacant (λ q. ne (omega arith))) (others j k low d ne ∙ h .words j k low high d)))
+      beyond
+
+  -- the words of a record
+  pub contents-written : (i : ℕ) → Record n w i → (s : Slot) (a c : ℕ) → Contents n (sets w (cell i 0) (recordOf s a c)) count next tick (set ss (i - 1) s) r
+  contents-written i at s a c =
+      let ws = recordOf s a c in
+      let size = recordOf-length s a c in
+      let few : length ws ≤ recordLength = omega (arith, size) in
+      contents-changed (sets w (cell i 0) ws) i (at .least) (at .most) s
+      (λ k l. sets-header n w i ws few k (omega arith))
+      (λ k d. sets-word n w i ws few at k (rw size (d .inside)) ∙ withLinks-data (dataWords s) (slot-long s) a c k d)
+      (λ j k low d ne. sets-word-other n w i ws few j k (at .least) low (d .inside) (λ q. absurd (ne q)))
+      (sets-beyond n w i ws few (at .least) (at .most))
 
   -- a record reads as the stop that it holds
   pub contents-entry : (i : ℕ) (t : StopEntry) → 1 ≤ i → i ≤ n → getD ss (i - 1) vacant ≡ held t → entryAt w i ≡ t
-  unfolding entryAt dataWords
+  unfolding entryAt dataWords withLinks
   contents-entry i t low high e =
-      let word : (k : ℕ) → k < dataLength → recordWord w i k ≡ getD (dataWords (held t)) k 0 = λ k l. rw e at (h .words i k low high l) in
+      let word : (k : ℕ) → IsData k → recordWord w i k ≡ dataWord (held t) k = λ k d. rw e at (h .words i k low high d) in
       λ x. record {
         id = record { kind = (ap kindOf (word 0 (omega arith)) ∙ kindOf-number (t .id .kind)) x; high = word 1 (omega arith) x; low = word 2 (omega arith) x };
         terms = record {

@@ -1,15 +1,13 @@
--- Words that are those of a valid book, and the data words of a record: document 01, The store.
-use Prim.Native.Nat.{ℕ, _-_}
+-- Words that are those of a valid book, and what words say apart from the chains: document 01, The store.
+use Prim.Native.Nat.{ℕ, _-_, _≤_}
 use mathlib.Core.Path.{_≡_}
-use mathlib.Core.List.{List, [], _∷_, _++_}
-use lib.ListN.{length, replicate, set}
-use Rattle.pricelevel.specs.Identity.{kindNumber}
-use Rattle.pricelevel.specs.Side.{sideNumber}
-use Rattle.book.proofs.Validity.{Valid, Fits}
-use Rattle.book.specs.Book.{Slot, vacant, held, Book, sideOf, stopOf, watermarkOf, seqOf}
-use Rattle.book.specs.Words.{layout}
+use mathlib.Core.List.{List, _++_}
+use lib.ListN.{length, getD, drop, set}
+use Rattle.book.specs.Valid.{Valid, Fits}
+use Rattle.book.specs.Book.{Slot, vacant, held, Book}
+use Rattle.book.specs.Words.{layout, recordWord, dataWord}
 use Rattle.book.specs.declared.StopEntry.{StopEntry}
-use Rattle.chains.specs.Records.{dataLength}
+use Rattle.book.specs.Sizes.{storeLength, IsData}
 
 -- the words w are those of a valid book of n records, whose numbers are words, and then r
 pub record Stored (n : ℕ) (w : List ℕ) (b : Book) (r : List ℕ) : Type 0 where
@@ -18,13 +16,16 @@ pub record Stored (n : ℕ) (w : List ℕ) (b : Book) (r : List ℕ) : Type 0 wh
   pub records : length (b .slots) ≡ n
   pub words : w ≡ layout b ++ r
 
--- the words of a record before its links: kind, identity high, identity low, side, stop, watermark, trail, quantity, sequence
-unfoldable pub dataWords : Slot → List ℕ
-dataWords vacant = replicate dataLength 0
-dataWords (held t) =
-    kindNumber (t .id .kind) ∷ t .id .high ∷ t .id .low ∷ sideNumber (sideOf t) ∷ stopOf t ∷ watermarkOf t ∷ t .terms .trail
-    ∷ t .quantity .0 ∷ seqOf t ∷ []
-
 -- record i holds another stop, and the next sequence is another
 abbrev pub replaced : ℕ → StopEntry → ℕ → Book → Book
 replaced i t next b = record { next = next; tick = b .tick; slots = set (b .slots) (i - 1) (held t); free = b .free }
+
+-- what the words of n records say apart from the chains: the header's first words, the data of the records, and the words r behind the store
+pub record Contents (n : ℕ) (w : List ℕ) (count next tick : ℕ) (ss : List Slot) (r : List ℕ) : Type 0 where
+  pub records : length ss ≡ n
+  pub word0 : getD w 0 0 ≡ n
+  pub word1 : getD w 1 0 ≡ count
+  pub word2 : getD w 2 0 ≡ next
+  pub word3 : getD w 3 0 ≡ tick
+  pub words : (i k : ℕ) → 1 ≤ i → i ≤ n → IsData k → recordWord w i k ≡ dataWord (getD ss (i - 1) vacant) k
+  pub beyond : drop (storeLength n) w ≡ r

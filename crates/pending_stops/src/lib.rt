@@ -1,68 +1,26 @@
 // The operations that change a store: a stop out, a stop in, a stop changed.
 use book::StopEntry;
-use chains::cell;
-use chains::link;
-use chains::pop;
-use chains::push;
-use chains::set_data;
-use chains::unlink;
 use pricelevel::Id;
 use pricelevel::Quantity;
 use pricelevel::Seq;
 use pricelevel::Side;
+use record_writer::write_entry;
+use record_writer::write_free;
 use stop_terms::StopTerms;
+use store_chains::link;
+use store_chains::pop;
+use store_chains::push;
+use store_chains::unlink;
 ghost use mathlib.Core.List.{List};
 ghost use mathlib.Core.Path.{_≡_};
 ghost use Prim.Native.Nat.{ℕ, _+_, _-_, _<_, _^_};
-ghost use lib.ListN.{set};
-ghost use lib.Seq.{sets};
-ghost use Rattle.book.proofs.Operations.{Admissible};
-ghost use Rattle.book.proofs.Validity.{Valid, Fits};
+ghost use Rattle.book.specs.Valid.{Valid, Fits, Admissible};
 ghost use Rattle.book.specs.Book.{Book, vacant, held};
 ghost use Rattle.book.specs.Store.{vacated, admitted, newEntry};
-ghost use Rattle.book.specs.Words.{cell};
+ghost use Rattle.book.specs.Words.{cell, dataWords};
 ghost use Rattle.chains.specs.Records.{Record};
-ghost use Rattle.form.proofs.Members.{Member};
-ghost use Rattle.pending_stops.specs.Stored.{Stored, dataWords, replaced};
-
-// Stores the data words of a stop in record i.
-fn set_entry(s: &mut [u64], n: u64, i: u64, t: StopEntry)
-    requires { ⌜ Record n (now s) i ⌝ }
-    ensures { λ _. ⌜ now (s .exit) ≡ sets (now (s .entry)) (cell i 0) (dataWords (held t)) ⌝ }
-{
-    let id = t.id;
-    let kind = id.kind;
-    let terms = t.terms;
-    let side = terms.side;
-    let stop = terms.stop;
-    let watermark = terms.watermark;
-    let quantity = t.quantity;
-    let seq = t.seq;
-    set_data(
-        s,
-        n,
-        i,
-        kind.number() as u64,
-        id.high,
-        id.low,
-        side.number() as u64,
-        stop.0,
-        watermark.0,
-        terms.trail,
-        quantity.0,
-        seq.0,
-    );
-}
-
-// Makes the words of record i zero, but for the one that links a free record.
-fn blank(s: &mut [u64], n: u64, i: u64)
-    requires { ⌜ Record n (now s) i ⌝ }
-    ensures { λ _. ⌜ now (s .exit) ≡ set (sets (now (s .entry)) (cell i 0) (dataWords vacant)) (cell i 10) 0 ⌝ }
-{
-    set_data(s, n, i, 0, 0, 0, 0, 0, 0, 0, 0, 0);
-    let at = cell(i, 10);
-    s[at] = 0;
-}
+ghost use Rattle.book.specs.Chains.{Member};
+ghost use Rattle.pending_stops.specs.Stored.{Stored, replaced};
 
 // Takes the stop of record i, of this side, out of the store.
 pub fn vacate(s: &mut [u64], n: u64, i: u64, side: Side)
@@ -73,7 +31,7 @@ pub fn vacate(s: &mut [u64], n: u64, i: u64, side: Side)
     let count = s[1];
     s[1] = count - 1;
     unlink(s, n, side, i);
-    blank(s, n, i);
+    write_free(s, n, i, 0);
     push(s, n, i);
 }
 
@@ -86,7 +44,7 @@ pub fn change(s: &mut [u64], n: u64, i: u64, side: Side, t: StopEntry, next: u64
 {
     s[2] = next;
     unlink(s, n, side, i);
-    set_entry(s, n, i, t);
+    write_entry(s, n, i, t);
     let terms = t.terms;
     let new_side = terms.side;
     link(s, n, new_side, i);
@@ -109,7 +67,7 @@ pub fn occupy(s: &mut [u64], n: u64, id: Id, terms: StopTerms, quantity: Quantit
         quantity: quantity,
         seq: Seq(next),
     };
-    set_entry(s, n, i, t);
+    write_entry(s, n, i, t);
     let side = terms.side;
     link(s, n, side, i);
     Seq(next)

@@ -13,13 +13,13 @@ use Rattle.pricelevel.specs.declared.Side.the-variants.{Buy, Sell}
 use Rattle.stop_terms.specs.Terms.{electedAt}
 use Rattle.book.proofs.Lists.{all-of, map-agree}
 use Rattle.book.proofs.Points.{gather-none, freed-append}
-use Rattle.book.proofs.Steps.{isSide, trailedSlot, trailedOn, elect, electedIn, vacatedBy, stays, takenOn}
+use Rattle.book.specs.Steps.{isSide, trailedSlot, trailedOn, elect, electedIn, vacatedBy, stays, takenOn, other, firstSide, trailedBoth, electedBoth, takenBoth}
 use Rattle.book.proofs.Stops.{trailed-keeps}
 use Rattle.book.specs.Book.{Slot, vacant, held, Book, gather, sort, sideOf, stopOf, ofSide}
 use Rattle.book.specs.Evaluation.{trailed, leaves, vacatedIf, settled, leavingOn, leaver, electedOn, electedBy, freed, changedOn, mover}
 use Rattle.book.specs.Evaluation.{movedOn, movedBy, fillAt, point}
 use Rattle.book.specs.declared.StopEntry.{StopEntry}
-use Rattle.points.specs.Steps.{other, firstSide, trailedBoth, electedBoth, takenBoth}
+use Rattle.book.specs.Lists.{sortBy}
 
 ------------------------------------------------------------------------
 -- What is taken from changed records
@@ -170,7 +170,7 @@ module _ (price : Price) (b : Book) where
   electedBy-steps false = rw (electedIn-other price (trailedBoth price b) Buy, electedIn-trailed price b Buy, electedIn-trailed price b Sell)
 
   electedOn-killed : (d : Side) → electedOn true price d b ≡ []
-  unfolding electedOn sort
+  unfolding electedOn sortBy
   electedOn-killed d = rw (gather-none (leaver true price d) 1 (b .slots) (all-of (killed-leaver price d) (b .slots)))
 
   electedBy-killed : (first : Bool) → electedBy true first price b ≡ []

@@ -10,12 +10,12 @@ use Rattle.pricelevel.specs.declared.Price.{Price}
 use Rattle.book.proofs.Counting.{point-count, point-moves}
 use Rattle.book.specs.Book.{Book, pendingCount}
 use Rattle.book.specs.Evaluation.{movedBy, fillAt, Evaluated, point, andThen}
-use Rattle.book.specs.Words.{mostRecords}
+use Rattle.book.specs.Sizes.{mostRecords}
 use Rattle.listing.specs.Entries.{fillWords}
 use Rattle.pending_stops.specs.Stored.{Stored}
 use Rattle.points.proofs.PointSteps.{point-fills, point-book, point-fills-killed, point-book-killed}
 use Rattle.points.proofs.Stepping.{stored-few, run-on, ElectsBoth}
-use Rattle.points.specs.Steps.{firstSide, trailedBoth, electedBoth}
+use Rattle.book.specs.Steps.{firstSide, trailedBoth, electedBoth}
 
 -- the words w become v, and the list l, from a place on, k, as o does it; answered are the moves and where the list goes on
 abbrev pub Does : (Book → Evaluated) → ℕ → List ℕ → List ℕ → List (List ℕ) → List (List ℕ) → ℕ → ℕ → ℕ → Type 0

@@ -11,15 +11,14 @@ use Rattle.pricelevel.specs.declared.Side.{Side}
 use Rattle.pricelevel.specs.declared.Side.the-variants.{Buy, Sell}
 use Rattle.book.proofs.Counting.{point-moves}
 use Rattle.book.proofs.FreeChain.{pendingCount-vacant}
-use Rattle.book.proofs.Steps.{trailedOn, electedIn, takenOn}
+use Rattle.book.specs.Steps.{trailedOn, electedIn, takenOn, other, trailedBoth, electedBoth, takenBoth}
 use Rattle.book.specs.Book.{Book, Pending, pendingCount}
 use Rattle.book.specs.Evaluation.{movedOn, movedBy, fillAt, point}
-use Rattle.book.specs.Words.{mostRecords}
+use Rattle.book.specs.Sizes.{mostRecords}
 use Rattle.listing.proofs.Sets.{sets-on}
 use Rattle.listing.specs.Entries.{movedWords, fillWords}
 use Rattle.pending_stops.specs.Stored.{Stored}
 use Rattle.points.proofs.PointSteps.{point-moved}
-use Rattle.points.specs.Steps.{other, trailedBoth, electedBoth, takenBoth}
 
 -- no more stops are pending than there are records
 pub stored-few : {n : ℕ} {w : List ℕ} {b : Book} {r : List ℕ} → Stored n w b r → pendingCount (b .slots) ≤ mostRecords

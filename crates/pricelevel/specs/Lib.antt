@@ -1,3 +1,4 @@
 pub mod Identity
+pub mod Price
 pub mod Side
 pub mod Tick

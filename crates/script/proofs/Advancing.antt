@@ -8,7 +8,8 @@ use borrow.Author.Tests.{eq-eqb, ne-eqb}
 use borrow.Table.Steps.{cases}
 use lib.ListN.{length}
 use Rattle.book.proofs.Executing.{scriptFormed-length}
-use Rattle.book.specs.Script.{scriptEntryLength, scriptFormed, scriptSegment, executeOne}
+use Rattle.book.specs.Script.{scriptFormed, scriptSegment, executeOne}
+use Rattle.book.specs.Sizes.{scriptEntryLength}
 use Rattle.book.specs.declared.Elected.{Elected}
 use Rattle.script.specs.Execute.{pendingWord, Advanced}
 use Rattle.script.specs.Queue.{Enqueued}

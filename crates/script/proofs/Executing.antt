@@ -9,7 +9,8 @@ use native.Mathlib.Omega.{arith}
 use lib.ListN.{length, getD, set, drop, length-append, length-set}
 use lib.Seq.{drop-drop, sets, getD-set-same, getD-set-other}
 use Rattle.book.proofs.Executing.{executeOne-segments, executeOne-used, executed-used, script-left, scriptFormed-length}
-use Rattle.book.specs.Script.{Executed, scriptEntryLength, scriptFormed, executeOne, executed}
+use Rattle.book.specs.Script.{Executed, scriptFormed, executeOne, executed}
+use Rattle.book.specs.Sizes.{scriptEntryLength}
 use Rattle.book.specs.declared.Elected.{Elected}
 use Rattle.book.specs.declared.PrintSegment.{PrintSegment}
 use Rattle.script.specs.Execute.{pendingWord, Flags, Advanced}
@@ -111,11 +112,6 @@ pub executed-within : (script : List ℕ) (es : List Elected) → scriptFormed s
 executed-within script es f = let (n, l) = scriptFormed-length script f in omega (arith, l, executed-used script es n l)
 
 -- words behind an element leave it as it is
-getD-sets-before : {A : Type 0} (l : List A) (from : ℕ) (vs : List A) (i : ℕ) (d : A) → i < from → getD (sets l from vs) i d ≡ getD l i d
-getD-sets-before l from [] i d h = refl
-getD-sets-before l from (v ∷ vs) i d h =
-    getD-sets-before (set l from v) (suc from) vs i d (omega arith) ∙ getD-set-other l from i v d (λ e. omega arith)
-
 -- entries that are written to a list, each with its last word
 module _ (entryWords : Elected → List ℕ) (last : (e : Elected) → getD (entryWords e) 12 0 ≡ pendingWord e) where
   pub flags-written : (list : List (List ℕ)) (from : ℕ) (es : List Elected) → from + length es ≤ length list
@@ -123,6 +119,6 @@ module _ (entryWords : Elected → List ℕ) (last : (e : Elected) → getD (ent
   flags-written list from [] room = tt
   flags-written list from (e ∷ es) room =
       let here : from < length list = omega (arith, room) in (
-        rw (getD-sets-before (set list from (entryWords e)) (suc from) (map entryWords es) from [] (omega arith), getD-set-same) (last e),
+        rw (getD-sets-before (map entryWords es) (set list from (entryWords e)) from (suc from) [] (omega arith), getD-set-same) (last e),
         flags-written (set list from (entryWords e)) (suc from) es (rw length-set (omega (arith, room))),
       )

@@ -10,7 +10,8 @@ use lib.Dec.{leb}
 use lib.ListN.{length, getD, take, drop, length-drop, drop-of-length-le}
 use lib.Seq.{take-all, getD-drop, drop-drop}
 use Rattle.pricelevel.proofs.Bools.{and-parts}
-use Rattle.book.specs.Script.{scriptEntryLength, scriptFormed}
+use Rattle.book.specs.Script.{scriptFormed}
+use Rattle.book.specs.Sizes.{scriptEntryLength}
 
 -- less than an entry is not formed
 pub formed-part : (l : List ℕ) → 0 < length l → length l < scriptEntryLength → scriptFormed l ≡ false

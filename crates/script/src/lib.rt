@@ -2,21 +2,18 @@
 //
 //     script entry: printed (0, 1), prev present (0, 1), prev, first, last
 //     queue entry: prev present (0, 1), prev (0 if absent), first, last
-use book::LastPrice;
-use book::PrintSegment;
-use pricelevel::Price;
-use print_path::NextSegment;
+use book::ElectedWords;
+use book::SCRIPT_ENTRY_WORDS;
 ghost use mathlib.Core.Bool.{true};
 ghost use mathlib.Core.List.{List};
 ghost use mathlib.Core.Path.{_≡_};
-ghost use Prim.Native.Nat.{ℕ, _+_, _*_, _≤_, _<_};
+ghost use Prim.Native.Nat.{_+_, _*_, _≤_, _<_};
 ghost use lib.ListN.{length, drop};
-ghost use Rattle.book.specs.Script.{scriptEntryLength, scriptFormed, scriptSegment, executeOne, executed};
+ghost use Rattle.book.specs.Script.{scriptFormed, scriptSegment, executeOne, executed};
+ghost use Rattle.book.specs.Sizes.{scriptEntryLength};
 ghost use Rattle.book.specs.declared.Elected.{Elected};
-ghost use Rattle.book.specs.declared.PrintSegment.{PrintSegment};
-ghost use Rattle.print_path.specs.Segments.{toldNext};
 ghost use Rattle.script.specs.Execute.{pendingWord, Flags, Advanced};
-ghost use Rattle.script.specs.Queue.{prevFrom, Queued, firstOf, Enqueued};
+ghost use Rattle.script.specs.Queue.{Enqueued};
 
 // Whether a script is of whole entries, with both flags of each 0 or 1.
 pub fn script_formed(script: &[u64]) -> bool
@@ -24,7 +21,7 @@ pub fn script_formed(script: &[u64]) -> bool
 {
     let mut at: usize = 0;
     while at < script.len() {
-        if script.len() - at < 5 {
+        if script.len() - at < SCRIPT_ENTRY_WORDS {
             return false;
         }
         if script[at] > 1 {
@@ -33,35 +30,9 @@ pub fn script_formed(script: &[u64]) -> bool
         if script[at + 1] > 1 {
             return false;
         }
-        at += 5;
+        at += SCRIPT_ENTRY_WORDS;
     }
     true
-}
-
-// The price before a segment, from its words.
-fn prev_from(present: u64, prev: u64) -> LastPrice
-    ensures { λ r. ⌜ r ≡ prevFrom present prev ⌝ }
-{
-    if present == 1 {
-        return LastPrice::At(Price(prev));
-    }
-    LastPrice::None
-}
-
-// The next segment of the queue whose words stand from head up to tail.
-pub fn segment_at(queue: &[[u64; 4]], head: usize, tail: usize) -> NextSegment
-    requires { ⌜ ((q : List PrintSegment) × Queued (now queue) head tail q) ⌝ }
-    ensures { λ r. ⌜ ((q : List PrintSegment) → Queued (now (queue .entry)) head tail q → toldNext r ≡ firstOf q) ⌝ }
-{
-    if head == tail {
-        return NextSegment::None;
-    }
-    let words = queue[head];
-    NextSegment::Next(PrintSegment {
-        prev: prev_from(words[0], words[1]),
-        first: Price(words[2]),
-        last: Price(words[3]),
-    })
 }
 
 // Puts the segment that an entry of the script printed, if it printed one, behind the queue, and answers the tail after it.
@@ -102,7 +73,7 @@ fn execute_one(
         → Advanced (executeOne (drop (scriptEntryLength * used) (now (script .entry))) e)
         used (now (queue .entry)) tail (r .used) (now (queue .exit)) (r .tail)) ⌝ }
 {
-    let at = 5 * used;
+    let at = SCRIPT_ENTRY_WORDS * used;
     if pending == 1 {
         return Execution {
             used: used,
@@ -125,7 +96,7 @@ fn execute_one(
 // Executes the elected of a list from one entry up to another, in turn: each whose child identity is free uses the next entry of the
 // script, and the segment that it printed, if it printed one, goes behind the queue.
 pub fn execute(
-    list: &[[u64; 13]],
+    list: &[ElectedWords],
     from: usize,
     to: usize,
     script: &[u64],

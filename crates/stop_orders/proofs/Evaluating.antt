@@ -1,7 +1,7 @@
 -- An evaluation with a lent list of records: a store, settings, two parameters that are handed on, and the list. A local array of words is lent
 -- with them to a callee that evaluates, then, to be read, with the list to one that fills it. The signature, the contract and the code of such a
 -- function, and that the code meets the contract where the callees meet theirs. `walk` and `evaluate_pending_stops` are two.
-use mathlib.Core.Path.{_≡_, refl, sym, subst, _∙_}
+use mathlib.Core.Path.{_≡_, refl, sym, ap, subst, _∙_}
 use Prim.Native.Nat.{ℕ, _≤_, _<_, _^_}
 use mathlib.Core.List.{[], _∷_, _++_, List, map}
 use lib.Dec.{lit<}
@@ -41,7 +41,7 @@ use denote.Triple.Clauses.{Ended, Clauses, closing, lasts}
 use denote.Triple.Walked.{says, Stays, gave-slice, stay-dropped, walkOf, AllGo, goes-gave-slice, goes-dropped, Walks, ends-at, walked, walk-meets}
 use denote.Exit.{yes, Last, left}
 use Rattle.book.specs.Calls.{written}
-use Rattle.book.specs.Words.{mostRecords}
+use Rattle.book.specs.Sizes.{mostRecords}
 use Rattle.book.specs.declared.Elected.{Elected}
 use Rattle.book.specs.declared.Settings.{Settings}
 use Rattle.stop_orders.specs.Records.{electedOf}
@@ -134,7 +134,7 @@ makes-words callee filler = seq (assign (place 8 []) (repeat (int w64 0) elected
     (seq (assign (place 6 []) (repeat (copy (place 8 [])) mostRecords)) (calls-callee callee filler))
 
 module _ (P Q : Plain) (answer : Q .row .Denot → P .row .Denot) (count : Q .row .Denot → ℕ) (X Y : Handed) {T : Type 0} (told : P .row .Denot → T)
-    (outcome : (κ : Lft) → Settings → X .row κ .Denot → Y .row κ .Denot → List ℕ → List Elected → Left T Elected) where
+    (outcome : (κ : Lft) → Settings → X .row κ .Denot → Y .row κ .Denot → List ℕ → ℕ → Left T) where
   -- the type of what the callee answers, its two fields written out
   abbrev Returned : Ty
   Returned = tyStruct (nameOf (Q .mir)) (tcons (P .mir) (tcons (tyInt w64) tnil))
@@ -146,7 +146,7 @@ module _ (P Q : Plain) (answer : Q .row .Denot → P .row .Denot) (count : Q .ro
   abbrev slotY : Slot 3
   slotY = plain (λ κs. Y .row (κs .1 .0))
 
-  -- ---- the callee, which claims: r it answers, zs is the store, ws are the words, for any list with this room
+  -- ---- the callee, which claims: r it answers, zs is the store, ws are the words, for a list with this room
   abbrev calling : Ended
   calling = record {
     signature = record {
@@ -162,9 +162,8 @@ module _ (P Q : Plain) (answer : Q .row .Denot → P .row .Denot) (count : Q .ro
   abbrev Did : (κ : Lft) → Settings → X .row κ .Denot → Y .row κ .Denot → List ℕ → ℕ → Q .row .Denot → List ℕ → List (List ℕ) → List (Type 0)
   Did κ settings x y w room r zs ws =
       ((count r ≤ room) × (count r ≤ mostRecords))
-      ∷ ((list : List Elected) → length list ≡ room → told (answer r) ≡ outcome κ settings x y w list .told)
-      ∷ ((list : List Elected) → length list ≡ room → zs ≡ outcome κ settings x y w list .words)
-      ∷ ((list : List Elected) → length list ≡ room → written (map electedOf (take (count r) ws)) list ≡ outcome κ settings x y w list .entries)
+      ∷ (told (answer r) ≡ outcome κ settings x y w room .told) ∷ (zs ≡ outcome κ settings x y w room .words)
+      ∷ (map electedOf (take (count r) ws) ≡ outcome κ settings x y w room .entries)
       ∷ []
 
   abbrev called : {M : Type 1} (𝓤 : URA M) → Clauses 𝓤 calling
@@ -195,8 +194,8 @@ module _ (P Q : Plain) (answer : Q .row .Denot → P .row .Denot) (count : Q .ro
   abbrev Done : (κ : Lft) → Settings → X .row κ .Denot → Y .row κ .Denot → List ℕ → List Elected → P .row .Denot → List ℕ → List Elected
       → List (Type 0)
   Done κ settings x y w list r zs ms =
-      (told r ≡ outcome κ settings x y w list .told) ∷ (zs ≡ outcome κ settings x y w list .words) ∷ (ms ≡ outcome κ settings x y w list .entries)
-      ∷ []
+      (told r ≡ outcome κ settings x y w (length list) .told) ∷ (zs ≡ outcome κ settings x y w (length list) .words)
+      ∷ (ms ≡ written (outcome κ settings x y w (length list) .entries) list) ∷ []
 
   abbrev clauses : {M : Type 1} (𝓤 : URA M) → Clauses 𝓤 ended
   clauses 𝓤 κs args = record {
@@ -427,7 +426,7 @@ module _ (P Q : Plain) (answer : Q .row .Denot → P .row .Denot) (count : Q .ro
             (row-room 𝓤 H A W (Entry electedWide) mostRecords l₆ ws long) $
             returns ! (look ! 41 refl) $ frees-all ! 31 (full (P .val (answer r)) ∷ given) tt refl $
             move ! (0 ∷ 30 ∷ []) $ free1 ! $ frees-all ! 5 (first (pair r) ++ second w) tt refl $ free0 ! $ keep ! (4 ∷ 1 ∷ 3 ∷ 2 ∷ 0 ∷ []) $
-            by ! (exits r is zs m₁ ms m₂ (e .1 .0 (xe .now) refl, (e .1 .1 .0 (xe .now) refl, h ∙ e .1 .1 .1 (xe .now) refl))))
+            by ! (exits r is zs m₁ ms m₂ (e .1 .0, (e .1 .1 .0, h ∙ ap (λ (t : List Elected). written t (xe .now)) (e .1 .1 .1)))))
 
         -- before it, once the local array lies in memory as its elements
         abbrev Apart : List (List ℕ) → List (Item 𝓤)

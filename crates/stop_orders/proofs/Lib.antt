@@ -1,11 +1,9 @@
+pub mod Again
 pub mod Buffers
 pub mod Claims
 pub mod Constants
 pub mod Cut
-pub mod CutPass
-pub mod CutSegment
-pub mod CutWalk
-pub mod EndsDecide
+pub mod CutCalls
 pub mod Evaluating
 pub mod Filling
 pub mod Frame

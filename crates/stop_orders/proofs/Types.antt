@@ -1,8 +1,8 @@
 -- The types of the calls on lent state, each as a walk uses it; and of a call's answer with the path after it, what it says of its two fields.
 use mathlib.Core.Path.{refl}
 use denote.Struct.Laws.{owed}
-use Rattle.admission.specs.declared.Admission.{Admission}
-use Rattle.admission.specs.declared.Cleared.{Cleared}
+use Rattle.book.specs.declared.Admission.{Admission}
+use Rattle.book.specs.declared.Cleared.{Cleared}
 use Rattle.admission.proofs.Admission as admission
 use Rattle.admission.proofs.Admission.Laws as admission′
 use Rattle.admission.proofs.AdmissionAnswer as admitted

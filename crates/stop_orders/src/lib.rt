@@ -5,27 +5,30 @@
 use print_path::closed;
 use print_path::recorded;
 use print_path::taken;
-use store_words::kind_of;
-use store_words::side_from;
+use stored_stops::kind_of;
+use stored_stops::side_from;
 
 // The values that calls take and answer
-pub use admission::AdmissionAnswer;
-pub use admission::FindAnswer;
-pub use admission::QuantityAnswer;
-pub use admission::StopAnswer;
+pub use book::AdmissionAnswer;
+pub use book::Counts;
 pub use book::Elected;
+pub use book::EvaluationAnswer;
+pub use book::FindAnswer;
 pub use book::LastPrice;
+pub use book::LayoutAnswer;
 pub use book::Moved;
 pub use book::OrderUpdate;
+pub use book::PassAnswer;
+pub use book::PassCounts;
 pub use book::PrintPath;
 pub use book::PrintSegment;
+pub use book::QuantityAnswer;
 pub use book::Settings;
+pub use book::StopAnswer;
 pub use book::StopEntry;
+pub use book::Totals;
+pub use book::TwoWords;
 pub use error::Refusal;
-pub use evaluation::Counts;
-pub use evaluation::EvaluationAnswer;
-pub use evaluation::PassAnswer;
-pub use evaluation::PassCounts;
 pub use pricelevel::Id;
 pub use pricelevel::IdKind;
 pub use pricelevel::Price;
@@ -43,13 +46,10 @@ pub use stop_protection::StopProtection;
 pub use stop_protection::TickCheck;
 pub use stop_terms::Inconsistency;
 pub use stop_terms::StopTerms;
-pub use store_words::LayoutAnswer;
-pub use store_words::Totals;
-pub use store_words::TwoWords;
 pub use uuid::Uuid;
 
 // Lays a store of n records and a tick, 0 for none, out in lent words. Refused: n is not 1 to 700, or there are too few words (2).
-pub use store_words::layout_store;
+pub use store_layout::layout_store;
 
 // Whether lent words are a well-formed store. The words are only read.
 pub use form::well_formed;
@@ -57,16 +57,16 @@ pub use form::well_formed;
 // Changes the pending stop of an identity; a quantity of zero cancels it. Refused: the store is not well formed (1); no such stop (12); a
 // change of price to the same (13); quantity zero (4); the stop beyond its watermark (6) or elected by the last trade (7); no sequence
 // left where one is taken (11).
-pub use admission::update_pending_stop;
+pub use changes::update_pending_stop;
 
 // Takes the pending stop of an identity out. Refused: the store is not well formed (1); no such stop (12).
-pub use admission::cancel_pending_stop;
+pub use store_calls::cancel_pending_stop;
 
 // The pending stop of an identity, if there is one. The store is only read. Refused: it is not well formed (1).
-pub use admission::pending_stop_order;
+pub use store_calls::pending_stop_order;
 
 // The pending quantity of each side. The store is only read. Refused: it is not well formed (1).
-pub use admission::pending_stop_quantity;
+pub use store_calls::pending_stop_quantity;
 
 // The stop price that a market price leads to, if it improves. Nothing is lent.
 pub use repricing::calculate_trailing_stop_price;
@@ -74,21 +74,19 @@ pub use repricing::calculate_trailing_stop_price;
 // The identity of an elected stop's child order. Nothing is lent.
 pub use stop_trigger::stop_trigger_order_id;
 ghost use Prim.Native.Nat.{_<_, _≤_, _*_, min};
-ghost use mathlib.Core.List.{List, [], map};
+ghost use mathlib.Core.List.{[], map};
 ghost use mathlib.Core.Path.{_≡_};
 ghost use lib.ListN.{length, getD, set, take as firsts};
-ghost use Rattle.admission.specs.Answers.{toldAdmission};
+ghost use Rattle.book.specs.Answers.{toldAdmission};
 ghost use Rattle.book.specs.Calls.{written, segmentCall, walkCall, passCall, runCall};
 ghost use Rattle.book.specs.Path.{recorded, closed, take};
 ghost use Rattle.book.specs.Store.{clear, admit};
-ghost use Rattle.book.specs.Words.{mostRecords};
-ghost use Rattle.book.specs.declared.Elected.{Elected};
-ghost use Rattle.book.specs.declared.Moved.{Moved};
-ghost use Rattle.evaluation.specs.Answers.{toldCounts, toldPass};
-ghost use Rattle.points.specs.Steps.{toPrice};
+ghost use Rattle.book.specs.Sizes.{mostRecords};
+ghost use Rattle.book.specs.Answers.{toldCounts, toldPass};
+ghost use Rattle.pricelevel.specs.Price.{toPrice};
 ghost use Rattle.print_path.specs.Segments.{toldNext};
 ghost use Rattle.stop_orders.specs.Records.{limitFrom, electedOf, movedOf, electedCount, movedCount, passCount};
-ghost use Rattle.store_words.specs.Empty.{toldLayout};
+ghost use Rattle.book.specs.Answers.{toldLayout};
 
 // ---------------------------------------------------------------------
 // The print path
@@ -147,7 +145,7 @@ pub fn clear(s: &mut [u64], path: &mut PrintPath) -> LayoutAnswer
     ensures { λ _. ⌜ now (path .exit) ≡ clear (now (s .entry)) (now (path .entry)) .path ⌝ }
     ensures { λ _. ⌜ now (s .exit) ≡ clear (now (s .entry)) (now (path .entry)) .words ⌝ }
 {
-    let cleared = admission::clear(s, *path);
+    let cleared = store_calls::clear(s, *path);
     *path = cleared.path;
     cleared.answer
 }
@@ -231,7 +229,7 @@ fn fill_elected(list: &mut [Elected], words: &[[u64; 13]], n: usize)
 {
     let mut i = 0;
     while i < n {
-        list[i] = elected_at(words, i);
+        place_elected(list, i, elected_at(words, i));
         i += 1;
     }
 }
@@ -243,7 +241,7 @@ fn fill_moved(list: &mut [Moved], words: &[[u64; 4]], n: usize)
 {
     let mut i = 0;
     while i < n {
-        list[i] = moved_at(words, i);
+        place_moved(list, i, moved_at(words, i));
         i += 1;
     }
 }
@@ -296,14 +294,12 @@ fn segment_words(
 ) -> SegmentRun
     requires { ⌜ (length (now elected) ≡ mostRecords) × (length (now moved) ≡ 2 * mostRecords) ⌝ }
     ensures { λ r. ⌜ ((r .elected ≤ «elected_room») × (r .elected ≤ mostRecords)) × ((r .moved ≤ «moved_room») × (r .moved ≤ 2 * mostRecords)) ⌝ }
-    ensures { λ r. ⌜ ((e : List Elected) (m : List Moved) → length e ≡ «elected_room» → length m ≡ «moved_room»
-        → toldCounts (r .answer) ≡ segmentCall settings prints (now (s .entry)) e m .answer) ⌝ }
-    ensures { λ _. ⌜ ((e : List Elected) (m : List Moved) → length e ≡ «elected_room» → length m ≡ «moved_room»
-        → now (s .exit) ≡ segmentCall settings prints (now (s .entry)) e m .words) ⌝ }
-    ensures { λ r. ⌜ ((e : List Elected) (m : List Moved) → length e ≡ «elected_room» → length m ≡ «moved_room»
-        → written (map electedOf (firsts (r .elected) (now (elected .exit)))) e ≡ segmentCall settings prints (now (s .entry)) e m .elected) ⌝ }
-    ensures { λ r. ⌜ ((e : List Elected) (m : List Moved) → length e ≡ «elected_room» → length m ≡ «moved_room»
-        → written (map movedOf (firsts (r .moved) (now (moved .exit)))) m ≡ segmentCall settings prints (now (s .entry)) e m .moved) ⌝ }
+    ensures { λ r. ⌜ toldCounts (r .answer) ≡ segmentCall settings prints (now (s .entry)) «elected_room» «moved_room» .answer ⌝ }
+    ensures { λ _. ⌜ now (s .exit) ≡ segmentCall settings prints (now (s .entry)) «elected_room» «moved_room» .words ⌝ }
+    ensures { λ r. ⌜ map electedOf (firsts (r .elected) (now (elected .exit)))
+        ≡ segmentCall settings prints (now (s .entry)) «elected_room» «moved_room» .elected ⌝ }
+    ensures { λ r. ⌜ map movedOf (firsts (r .moved) (now (moved .exit)))
+        ≡ segmentCall settings prints (now (s .entry)) «elected_room» «moved_room» .moved ⌝ }
 {
     let i = least(elected_room, elected.len());
     let j = least(moved_room, moved.len());
@@ -324,10 +320,12 @@ pub fn segment(
     elected: &mut [Elected],
     moved: &mut [Moved],
 ) -> EvaluationAnswer
-    ensures { λ r. ⌜ toldCounts r ≡ segmentCall settings prints (now (s .entry)) (now (elected .entry)) (now (moved .entry)) .answer ⌝ }
-    ensures { λ _. ⌜ now (s .exit) ≡ segmentCall settings prints (now (s .entry)) (now (elected .entry)) (now (moved .entry)) .words ⌝ }
-    ensures { λ _. ⌜ now (elected .exit) ≡ segmentCall settings prints (now (s .entry)) (now (elected .entry)) (now (moved .entry)) .elected ⌝ }
-    ensures { λ _. ⌜ now (moved .exit) ≡ segmentCall settings prints (now (s .entry)) (now (elected .entry)) (now (moved .entry)) .moved ⌝ }
+    ensures { λ r. ⌜ toldCounts r ≡ segmentCall settings prints (now (s .entry)) (length (now (elected .entry))) (length (now (moved .entry))) .answer ⌝ }
+    ensures { λ _. ⌜ now (s .exit) ≡ segmentCall settings prints (now (s .entry)) (length (now (elected .entry))) (length (now (moved .entry))) .words ⌝ }
+    ensures { λ _. ⌜ now (elected .exit)
+        ≡ written (segmentCall settings prints (now (s .entry)) (length (now (elected .entry))) (length (now (moved .entry))) .elected) (now (elected .entry)) ⌝ }
+    ensures { λ _. ⌜ now (moved .exit)
+        ≡ written (segmentCall settings prints (now (s .entry)) (length (now (elected .entry))) (length (now (moved .entry))) .moved) (now (moved .entry)) ⌝ }
 {
     let mut fills = [[0u64; 13]; 700];
     let mut moves = [[0u64; 4]; 1400];
@@ -362,12 +360,10 @@ fn walk_words(
 ) -> Run
     requires { ⌜ length (now words) ≡ mostRecords ⌝ }
     ensures { λ r. ⌜ (r .count ≤ room) × (r .count ≤ mostRecords) ⌝ }
-    ensures { λ r. ⌜ ((list : List Elected) → length list ≡ room
-        → toldCounts (r .answer) ≡ walkCall settings prev (map toPrice (now (prices .entry))) (now (s .entry)) list .answer) ⌝ }
-    ensures { λ _. ⌜ ((list : List Elected) → length list ≡ room
-        → now (s .exit) ≡ walkCall settings prev (map toPrice (now (prices .entry))) (now (s .entry)) list .words) ⌝ }
-    ensures { λ r. ⌜ ((list : List Elected) → length list ≡ room → written (map electedOf (firsts (r .count) (now (words .exit)))) list
-        ≡ walkCall settings prev (map toPrice (now (prices .entry))) (now (s .entry)) list .elected) ⌝ }
+    ensures { λ r. ⌜ toldCounts (r .answer) ≡ walkCall settings prev (map toPrice (now (prices .entry))) (now (s .entry)) room .answer ⌝ }
+    ensures { λ _. ⌜ now (s .exit) ≡ walkCall settings prev (map toPrice (now (prices .entry))) (now (s .entry)) room .words ⌝ }
+    ensures { λ r. ⌜ map electedOf (firsts (r .count) (now (words .exit)))
+        ≡ walkCall settings prev (map toPrice (now (prices .entry))) (now (s .entry)) room .elected ⌝ }
 {
     let k = least(room, words.len());
     let answer = evaluation::walk(s, settings, prev, prices, &mut words[..k]);
@@ -386,9 +382,10 @@ pub fn walk(
     prices: &[u64],
     elected: &mut [Elected],
 ) -> EvaluationAnswer
-    ensures { λ r. ⌜ toldCounts r ≡ walkCall settings prev (map toPrice (now (prices .entry))) (now (s .entry)) (now (elected .entry)) .answer ⌝ }
-    ensures { λ _. ⌜ now (s .exit) ≡ walkCall settings prev (map toPrice (now (prices .entry))) (now (s .entry)) (now (elected .entry)) .words ⌝ }
-    ensures { λ _. ⌜ now (elected .exit) ≡ walkCall settings prev (map toPrice (now (prices .entry))) (now (s .entry)) (now (elected .entry)) .elected ⌝ }
+    ensures { λ r. ⌜ toldCounts r ≡ walkCall settings prev (map toPrice (now (prices .entry))) (now (s .entry)) (length (now (elected .entry))) .answer ⌝ }
+    ensures { λ _. ⌜ now (s .exit) ≡ walkCall settings prev (map toPrice (now (prices .entry))) (now (s .entry)) (length (now (elected .entry))) .words ⌝ }
+    ensures { λ _. ⌜ now (elected .exit)
+        ≡ written (walkCall settings prev (map toPrice (now (prices .entry))) (now (s .entry)) (length (now (elected .entry))) .elected) (now (elected .entry)) ⌝ }
 {
     let mut words = [[0u64; 13]; 700];
     let run = walk_words(s, settings, prev, prices, &mut words, elected.len());
@@ -426,12 +423,10 @@ fn pass_words(
 ) -> PassRun
     requires { ⌜ length (now words) ≡ mostRecords ⌝ }
     ensures { λ r. ⌜ (r .count ≤ room) × (r .count ≤ mostRecords) ⌝ }
-    ensures { λ r. ⌜ ((list : List Elected) → length list ≡ room
-        → toldPass (r .answer) ≡ passCall settings (now (script .entry)) prints (now (s .entry)) list .answer) ⌝ }
-    ensures { λ _. ⌜ ((list : List Elected) → length list ≡ room
-        → now (s .exit) ≡ passCall settings (now (script .entry)) prints (now (s .entry)) list .words) ⌝ }
-    ensures { λ r. ⌜ ((list : List Elected) → length list ≡ room → written (map electedOf (firsts (r .count) (now (words .exit)))) list
-        ≡ passCall settings (now (script .entry)) prints (now (s .entry)) list .elected) ⌝ }
+    ensures { λ r. ⌜ toldPass (r .answer) ≡ passCall settings (now (script .entry)) prints (now (s .entry)) room .answer ⌝ }
+    ensures { λ _. ⌜ now (s .exit) ≡ passCall settings (now (script .entry)) prints (now (s .entry)) room .words ⌝ }
+    ensures { λ r. ⌜ map electedOf (firsts (r .count) (now (words .exit)))
+        ≡ passCall settings (now (script .entry)) prints (now (s .entry)) room .elected ⌝ }
 {
     let k = least(room, words.len());
     let answer = evaluation::evaluate_pending_stops(s, settings, script, prints, &mut words[..k]);
@@ -451,9 +446,10 @@ pub fn evaluate_pending_stops(
     prints: PrintSegment,
     elected: &mut [Elected],
 ) -> PassAnswer
-    ensures { λ r. ⌜ toldPass r ≡ passCall settings (now (script .entry)) prints (now (s .entry)) (now (elected .entry)) .answer ⌝ }
-    ensures { λ _. ⌜ now (s .exit) ≡ passCall settings (now (script .entry)) prints (now (s .entry)) (now (elected .entry)) .words ⌝ }
-    ensures { λ _. ⌜ now (elected .exit) ≡ passCall settings (now (script .entry)) prints (now (s .entry)) (now (elected .entry)) .elected ⌝ }
+    ensures { λ r. ⌜ toldPass r ≡ passCall settings (now (script .entry)) prints (now (s .entry)) (length (now (elected .entry))) .answer ⌝ }
+    ensures { λ _. ⌜ now (s .exit) ≡ passCall settings (now (script .entry)) prints (now (s .entry)) (length (now (elected .entry))) .words ⌝ }
+    ensures { λ _. ⌜ now (elected .exit)
+        ≡ written (passCall settings (now (script .entry)) prints (now (s .entry)) (length (now (elected .entry))) .elected) (now (elected .entry)) ⌝ }
 {
     let mut words = [[0u64; 13]; 700];
     let run = pass_words(s, settings, script, prints, &mut words, elected.len());
@@ -480,14 +476,11 @@ fn run_words(
 ) -> TriggerRun
     requires { ⌜ length (now words) ≡ mostRecords ⌝ }
     ensures { λ r. ⌜ (r .count ≤ room) × (r .count ≤ mostRecords) ⌝ }
-    ensures { λ r. ⌜ ((list : List Elected) → length list ≡ room
-        → toldPass (r .answer) ≡ runCall settings (now (script .entry)) trade (now (s .entry)) list path .answer) ⌝ }
-    ensures { λ r. ⌜ ((list : List Elected) → length list ≡ room
-        → r .path ≡ runCall settings (now (script .entry)) trade (now (s .entry)) list path .path) ⌝ }
-    ensures { λ _. ⌜ ((list : List Elected) → length list ≡ room
-        → now (s .exit) ≡ runCall settings (now (script .entry)) trade (now (s .entry)) list path .words) ⌝ }
-    ensures { λ r. ⌜ ((list : List Elected) → length list ≡ room → written (map electedOf (firsts (r .count) (now (words .exit)))) list
-        ≡ runCall settings (now (script .entry)) trade (now (s .entry)) list path .elected) ⌝ }
+    ensures { λ r. ⌜ toldPass (r .answer) ≡ runCall settings (now (script .entry)) trade (now (s .entry)) room path .answer ⌝ }
+    ensures { λ r. ⌜ r .path ≡ runCall settings (now (script .entry)) trade (now (s .entry)) room path .path ⌝ }
+    ensures { λ _. ⌜ now (s .exit) ≡ runCall settings (now (script .entry)) trade (now (s .entry)) room path .words ⌝ }
+    ensures { λ r. ⌜ map electedOf (firsts (r .count) (now (words .exit)))
+        ≡ runCall settings (now (script .entry)) trade (now (s .entry)) room path .elected ⌝ }
 {
     let k = least(room, words.len());
     let run = evaluation::run_stop_triggers(s, path, settings, script, trade, &mut words[..k]);
@@ -510,10 +503,11 @@ pub fn run_stop_triggers(
     trade: LastPrice,
     elected: &mut [Elected],
 ) -> PassAnswer
-    ensures { λ r. ⌜ toldPass r ≡ runCall settings (now (script .entry)) trade (now (s .entry)) (now (elected .entry)) (now (path .entry)) .answer ⌝ }
-    ensures { λ _. ⌜ now (path .exit) ≡ runCall settings (now (script .entry)) trade (now (s .entry)) (now (elected .entry)) (now (path .entry)) .path ⌝ }
-    ensures { λ _. ⌜ now (s .exit) ≡ runCall settings (now (script .entry)) trade (now (s .entry)) (now (elected .entry)) (now (path .entry)) .words ⌝ }
-    ensures { λ _. ⌜ now (elected .exit) ≡ runCall settings (now (script .entry)) trade (now (s .entry)) (now (elected .entry)) (now (path .entry)) .elected ⌝ }
+    ensures { λ r. ⌜ toldPass r ≡ runCall settings (now (script .entry)) trade (now (s .entry)) (length (now (elected .entry))) (now (path .entry)) .answer ⌝ }
+    ensures { λ _. ⌜ now (path .exit) ≡ runCall settings (now (script .entry)) trade (now (s .entry)) (length (now (elected .entry))) (now (path .entry)) .path ⌝ }
+    ensures { λ _. ⌜ now (s .exit) ≡ runCall settings (now (script .entry)) trade (now (s .entry)) (length (now (elected .entry))) (now (path .entry)) .words ⌝ }
+    ensures { λ _. ⌜ now (elected .exit)
+        ≡ written (runCall settings (now (script .entry)) trade (now (s .entry)) (length (now (elected .entry))) (now (path .entry)) .elected) (now (elected .entry)) ⌝ }
 {
     let mut words = [[0u64; 13]; 700];
     let run = run_words(s, *path, settings, script, trade, &mut words, elected.len());

@@ -6,12 +6,12 @@ use mathlib.Core.Option.{Option, none, some}
 use native.Mathlib.Omega.{arith}
 use borrow.Author.Tests.{ltb-true, ltb-false, leb-true, leb-false, lt-ltb, le-ltb, le-leb, lt-leb}
 use borrow.Table.Steps.{cases}
-use lib.Dec.{leb, ltb}
+use lib.Dec.{leb, ltb, eqb}
 use Rattle.pricelevel.specs.declared.Price.{Price}
 use Rattle.pricelevel.specs.declared.Side.{Side}
 use Rattle.pricelevel.specs.declared.Side.the-variants.{Buy, Sell}
 use Rattle.stop_terms.specs.declared.StopTerms.{StopTerms}
-use Rattle.stop_terms.specs.Terms.{behind, candidate, tightened, ratcheted, trailedAt, elects, electedAt}
+use Rattle.stop_terms.specs.Terms.{behind, candidate, tightened, ratcheted, trailedAt, elects, electedAt, beyond, inconsistencyOf, inconsistencyNumber}
 
 pub ruleset tests = (ltb-true, ltb-false, lt-ltb, le-ltb)
 
@@ -118,3 +118,17 @@ unfolding trailedAt ratcheted
 trailedAt-moved t price stop c h e f =
     let q : stop .0 ≡ tightened (t .side) (t .stop .0) (candidate (t .side) (t .trail) (price .0)) = cc in
     rw h (λ i. record { side = t .side; stop = record { 0 = q i }; watermark = price; trail = t .trail })
+
+------------------------------------------------------------------------
+-- The number of an inconsistency: 5 for a zero trail, 6 for a stop beyond its watermark, on either side.
+
+beyond-number : (s : Side) → inconsistencyNumber (beyond s) ≡ some 6
+unfolding beyond inconsistencyNumber
+beyond-number Sell = refl
+beyond-number Buy = refl
+
+pub inconsistency-number : (t : StopTerms)
+    → inconsistencyNumber (inconsistencyOf t) ≡ cond (eqb (t .trail) 0) (some 5) (cond (behind (t .side) (t .watermark .0) (t .stop .0)) (some 6) none)
+unfolding inconsistencyOf inconsistencyNumber
+inconsistency-number t = cases (eqb (t .trail) 0) (λ e. rw e)
+    (λ e. cases (behind (t .side) (t .watermark .0) (t .stop .0)) (λ f. rw (e, f) (beyond-number (t .side))) (λ f. rw (e, f)))

@@ -50,18 +50,23 @@ elects Buy price stop = leb stop price
 unfoldable pub electedAt : StopTerms → Price → Bool
 electedAt t price = elects (t .side) (price .0) (t .stop .0)
 
--- inconsistency: trail zero; sell stop above watermark, buy stop below it. As the number of the question (5, 6) that it answers no
-unfoldable pub inconsistencyOf : StopTerms → Option ℕ
-inconsistencyOf t =
-    cond (eqb (t .trail) 0) (some 5) (cond (behind (t .side) (t .watermark .0) (t .stop .0)) (some 6) none)
+-- inconsistency: trail zero; sell stop above watermark; buy stop below it
+unfoldable pub beyond : Side → Inconsistency
+beyond Sell = terms.SellAboveWatermark
+beyond Buy = terms.BuyBelowWatermark
 
--- the code's answers in these terms
+unfoldable pub inconsistencyOf : StopTerms → Inconsistency
+inconsistencyOf t =
+    cond (eqb (t .trail) 0) terms.ZeroTrail (cond (behind (t .side) (t .watermark .0) (t .stop .0)) (beyond (t .side)) terms.None)
+
+-- the number of the question that it answers no
+unfoldable pub inconsistencyNumber : Inconsistency → Option ℕ
+inconsistencyNumber terms.None = none
+inconsistencyNumber terms.ZeroTrail = some 5
+inconsistencyNumber terms.SellAboveWatermark = some 6
+inconsistencyNumber terms.BuyBelowWatermark = some 6
+
+-- the code's answer in these terms
 unfoldable pub toldCandidate : Candidate → Option ℕ
 toldCandidate at.None = none
 toldCandidate (at.At price) = some (price .0)
-
-unfoldable pub toldInconsistency : Inconsistency → Option ℕ
-toldInconsistency terms.None = none
-toldInconsistency terms.ZeroTrail = some 5
-toldInconsistency terms.SellAboveWatermark = some 6
-toldInconsistency terms.BuyBelowWatermark = some 6

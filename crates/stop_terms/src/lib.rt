@@ -3,7 +3,7 @@
 use pricelevel::Price;
 use pricelevel::Side;
 ghost use mathlib.Core.Path.{_≡_};
-ghost use Rattle.stop_terms.specs.Terms.{behind, candidate, toldCandidate, tightened, trailedAt, electedAt, inconsistencyOf, toldInconsistency};
+ghost use Rattle.stop_terms.specs.Terms.{behind, candidate, toldCandidate, tightened, trailedAt, electedAt, inconsistencyOf};
 
 // Side, stop price, watermark, and the trail: a distance in price units.
 pub struct StopTerms {
@@ -90,7 +90,7 @@ impl StopTerms {
 
     // The first inconsistency in the terms: a zero trail (5), or a stop on the wrong side of its watermark (6).
     pub fn inconsistency(self) -> Inconsistency
-        ensures { λ r. ⌜ toldInconsistency r ≡ inconsistencyOf self ⌝ }
+        ensures { λ r. ⌜ r ≡ inconsistencyOf self ⌝ }
     {
         if self.trail == 0 {
             return Inconsistency::ZeroTrail;

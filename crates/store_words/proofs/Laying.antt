@@ -17,14 +17,17 @@ use Rattle.pricelevel.specs.declared.Side.the-variants.{Buy, Sell}
 use Rattle.book.proofs.Operations.{emptyBook-length}
 use Rattle.book.proofs.Places.{recordWords-length, layout-length, layout-record}
 use Rattle.book.specs.Book.{Slot, vacant, Book, chainSide, withIndex, gather, sort, pendingOn, chain, indices, pendingCount}
-use Rattle.book.specs.Lists.{headOr0, rising}
-use Rattle.book.specs.Questions.{firstNo, decide}
+use Rattle.book.specs.Lists.{headOr0, rising, sortBy}
+use Rattle.error.specs.Questions.{firstNo, decide}
 use Rattle.book.specs.Store.{stored, emptyBook, layOut}
-use Rattle.book.specs.Words.{headerLength, recordLength, mostRecords, storeLength, nextIn, chainIndices, header, recordWords, layout, cell, recordWord}
+use Rattle.book.specs.Words.{nextIn, chainIndices, header, recordWords, layout, cell, recordWord, dataWords, afterByStop, afterByWatermark, withLinks}
+use Rattle.book.specs.Sizes.{headerLength, recordLength, mostRecords, storeLength}
 use Rattle.book.specs.declared.Chain.{Chain}
 use Rattle.book.specs.declared.Chain.the-variants.{ByStop, ByWatermark}
 use Rattle.chains.specs.Records.{Room, Record}
-use Rattle.store_words.specs.Empty.{freeWords}
+
+abbrev freeWords : ℕ → List ℕ
+freeWords next = withLinks (dataWords vacant) next 0
 
 ------------------------------------------------------------------------
 -- The free chain that rises
@@ -77,7 +80,7 @@ gather-empty c i zero = refl
 gather-empty c i (suc n) = gather-empty c (suc i) n
 
 chainIndices-empty : (c : Chain) (n tick : ℕ) → chainIndices c (emptyBook n tick) ≡ []
-unfolding chainIndices chain indices sort emptyBook
+unfolding chainIndices chain indices sortBy emptyBook
 chainIndices-empty c n tick = rw (gather-empty c 1 n)
 
 pendingCount-empty : (n : ℕ) → pendingCount (replicate n vacant) ≡ 0
@@ -97,21 +100,6 @@ header-empty n tick h =
       chainIndices-empty (ByWatermark Buy) n tick,
       headOr0-rising 1 n h,
     )
-
-------------------------------------------------------------------------
--- Stores in a row
-
-abbrev stores : List ℕ → ℕ → ℕ → List ℕ → List ℕ
-stores w p k [] = w
-stores w p k (v ∷ vs) = stores (set w (p + k) v) p (suc k) vs
-
-stores-sets : (w : List ℕ) (p k : ℕ) (vs : List ℕ) → stores w p k vs ≡ sets w (p + k) vs
-stores-sets w p k [] = refl
-stores-sets w p k (v ∷ vs) = stores-sets (set w (p + k) v) p (suc k) vs ∙ rw (add-suc p k)
-
-pub free-stores : (w : List ℕ) (p next : ℕ) → stores (set w p 0) p 1 (replicate 8 0 ++ (next ∷ 0 ∷ [])) ≡ sets w p (freeWords next)
-unfolding freeWords
-free-stores w p next = stores-sets (set w p 0) p 1 (replicate 8 0 ++ (next ∷ 0 ∷ [])) ∙ rw (add-one p)
 
 ------------------------------------------------------------------------
 -- The first words of a list over those of another
@@ -165,7 +153,7 @@ module _ (n tick : ℕ) where
       (layout-header-part (emptyBook n tick))
 
   emptyWords-record : (i : ℕ) → 1 ≤ i → i ≤ n → take recordLength (drop (cell i 0) (emptyWords n tick)) ≡ freeWords (nextIn (rising 1 n) i)
-  unfolding emptyBook recordWords freeWords
+  unfolding emptyBook recordWords afterByStop afterByWatermark
   emptyWords-record i low high =
       let inside : i - 1 < n = omega arith in
       rw (getD-replicate n (i - 1) vacant vacant inside) at (layout-record-part (emptyBook n tick) i low (rw (emptyBook-length n tick) high))
@@ -199,7 +187,7 @@ module _ (n tick : ℕ) where
 
     pub laid-more : (next : ℕ) (after : List ℕ) → i ≤ n → next ≡ nextIn (rising 1 n) i → after ≡ sets s (cell i 0) (freeWords next)
         → Laid n tick w (i + 1) after
-    unfolding freeWords cell
+    unfolding dataWords withLinks cell
     laid-more next after l e q =
         let p : cell i 0 ≡ storeLength (i - 1) = omega arith in
         let following : storeLength (i - 1) + recordLength ≡ storeLength (i + 1 - 1) = omega (arith, h .least) in

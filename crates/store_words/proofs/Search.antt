@@ -14,7 +14,8 @@ use Rattle.pricelevel.specs.Identity.{sameId}
 use Rattle.pricelevel.specs.declared.Id.{Id}
 use Rattle.pricelevel.specs.declared.Side.{Side}
 use Rattle.pricelevel.specs.declared.Side.the-variants.{Buy, Sell}
-use Rattle.book.proofs.Lists.{All, all-map}
+use Rattle.book.proofs.Lists.{all-map}
+use Rattle.book.specs.Lists.{All}
 use Rattle.book.proofs.Lookup.{InBook, chain-in-book}
 use Rattle.book.proofs.Reading.{slotsAt-length}
 use Rattle.book.specs.Book.{Slot, vacant, held, Pending, chain, indices}
@@ -22,35 +23,20 @@ use Rattle.book.specs.Store.{named, lookup}
 use Rattle.book.specs.Words.{chainIndices, cell, recordWord, entryAt, slotAt, slotsAt, bookOf, wellFormed}
 use Rattle.book.specs.declared.Chain.{Chain}
 use Rattle.book.specs.declared.Chain.the-variants.{ByStop}
+use Rattle.book.specs.declared.StoreChain.the-variants.{Ordered}
 use Rattle.book.specs.declared.StopEntry.{StopEntry}
-use Rattle.chains.specs.Links.{headOf, Linked}
-use Rattle.chains.specs.Records.{Room}
-use Rattle.store_words.specs.Search.{nextByStop, firstNamed, indexOr0}
-use Rattle.store_words.proofs.ChainsOf.{wellFormed-room, wellFormed-linked, wellFormed-chain-length}
+use Rattle.chains.specs.Links.{Linked, Walk}
+use Rattle.book.specs.Chains.{headOf}
+use Rattle.store_words.specs.Search.{firstNamed, indexOr0}
+use Rattle.book.specs.Sizes.{nextByStop, storeLength}
+use Rattle.store_words.proofs.ChainsOf.{wellFormed-room, wellFormed-linked}
 
 ------------------------------------------------------------------------
 -- One link
 
--- a chain whose first record is i
-pub record From (n : ℕ) (w : List ℕ) (k i : ℕ) (l : List ℕ) : Type 0 where
-  pub rest : List ℕ
-  pub is : l ≡ i ∷ rest
-  pub least : 1 ≤ i
-  pub most : i ≤ n
-  pub linked : Linked n w k (cell i k) rest
-
-module _ (n : ℕ) (w : List ℕ) (k p : ℕ) where
-  pub linked-from : (i : ℕ) (l : List ℕ) → getD w p 0 ≡ i → (i ≡ 0 → ⊥) → Linked n w k p l → From n w k i l
-  linked-from i [] e z h = absurd (z (sym e ∙ h))
-  linked-from i (j ∷ l) e z h =
-      let q : j ≡ i = sym (h .0) ∙ e in
-      record { rest = l; is = rw q; least = rw q at (h .1); most = rw q at (h .2); linked = rw q at (h .3) }
-
-  module _ (id : Id) where
-    pub firstNamed-end : (l : List ℕ) → getD w p 0 ≡ 0 → Linked n w k p l → firstNamed w id l ≡ 0
-    unfolding firstNamed
-    firstNamed-end [] e h = refl
-    firstNamed-end (j ∷ l) e h = absurd (omega (arith, h .0, h .1))
+pub firstNamed-none : (w : List ℕ) (id : Id) → firstNamed w id [] ≡ 0
+unfolding firstNamed
+firstNamed-none w id = refl
 
 pub firstNamed-here : (w : List ℕ) (id : Id) (i : ℕ) (l : List ℕ) → sameId id (entryAt w i .id) ≡ true → firstNamed w id (i ∷ l) ≡ i
 unfolding firstNamed
@@ -62,20 +48,6 @@ firstNamed-later w id i l e = rw e
 
 ------------------------------------------------------------------------
 -- The stops of a chain are those of their records
-
-slotsAt-slot : (w : List ℕ) (i k m : ℕ) → m < k → getD (slotsAt w i k) m vacant ≡ slotAt w (i + m)
-unfolding slotsAt
-slotsAt-slot w i zero m h = absurd (omega arith)
-slotsAt-slot w i (suc k) zero h = rw add-zero
-slotsAt-slot w i (suc k) (suc m) h = rw (add-suc i m, ← suc-add i m) (slotsAt-slot w (suc i) k m (omega arith))
-
-slotAt-held : (w : List ℕ) (i : ℕ) (t : StopEntry) → slotAt w i ≡ held t → entryAt w i ≡ t
-unfolding slotAt
-slotAt-held w i t e = go (eqb (recordWord w i 7) 0) e
-  where
-    go : (v : Bool) → cond v vacant (held (entryAt w i)) ≡ held t → entryAt w i ≡ t
-    go true e = let z : _≡_ {A = ℕ} 0 1 = cc in absurd (omega arith)
-    go false e = cc
 
 -- record p .index of the words holds the stop
 abbrev AtRecord : List ℕ → Pending → Type 0
@@ -89,7 +61,7 @@ chain-at-records c w = all-map at (chain c (bookOf w .slots)) (chain-in-book c (
     at p h =
         let e : 1 + (p .index - 1) ≡ p .index = omega (arith, h .from) in
         let inside : p .index - 1 < getD w 0 0 = omega (arith, h .from, h .to, slotsAt-length w 1 (getD w 0 0)) in
-        (h .from, slotAt-held w (p .index) (p .entry) (sym (rw e at (slotsAt-slot w 1 (getD w 0 0) (p .index - 1) inside)) ∙ h .there))
+        (h .from, slotAt-entry w (p .index) (p .entry) (sym (rw e at (slotsAt-at w 1 (getD w 0 0) (p .index - 1) inside)) ∙ h .there))
 
 ------------------------------------------------------------------------
 -- Along both stop chains
@@ -138,13 +110,21 @@ module _ (w : List ℕ) (id : Id) where
 ------------------------------------------------------------------------
 -- In well-formed words
 
+head-inside : (side : Side) (n m : ℕ) → storeLength n ≤ m → headOf (ByStop side) < m
+head-inside Sell n m h = omega arith
+head-inside Buy n m h = omega arith
+
 module _ (w : List ℕ) (e : wellFormed w ≡ true) (n : ℕ) (q : n ≡ getD w 0 0) where
-  pub stop-linked : (side : Side) → Linked n w nextByStop (headOf (ByStop side)) (chainIndices (ByStop side) (bookOf w))
-  stop-linked side = rw q (wellFormed-linked w e (ByStop side))
+  stop-linked : (side : Side) → Linked n w nextByStop (headOf (ByStop side)) (chainIndices (ByStop side) (bookOf w))
+  stop-linked side = rw q (wellFormed-linked w e (Ordered (ByStop side)))
+
+  -- what is found along it
+  pub stop-found : (side : Side) (id : Id) (head i : ℕ) → head ≡ headOf (ByStop side)
+      → ((l : List ℕ) → Linked n w nextByStop head l → i ≡ firstNamed w id l) → i ≡ firstNamed w id (chainIndices (ByStop side) (bookOf w))
+  stop-found side id head i h f = f _ (rw h (stop-linked side))
 
   -- what the search asks of a side's stop chain
-  pub stop-search : (side : Side) → Room n w × ((p : ℕ) × (l : List ℕ) × (getD w p 0 ≡ getD w (headOf (ByStop side)) 0) × Linked n w nextByStop p l × (length l ≤ n))
-  stop-search side = (
-    rw q (wellFormed-room w e),
-    (headOf (ByStop side), chainIndices (ByStop side) (bookOf w), refl, stop-linked side, rw q (wellFormed-chain-length w e (ByStop side))),
-  )
+  pub stop-walk : (side : Side) → (l : List ℕ) × Walk n w nextByStop (headOf (ByStop side)) l
+  stop-walk side =
+      let room = rw (← q) at (wellFormed-room w e) in
+      (chainIndices (ByStop side) (bookOf w), record { inside = room; link = omega arith; start = head-inside side _ _ (room .room); linked = stop-linked side })

@@ -16,8 +16,8 @@ use Rattle.book.specs.Book.{ofSide, pendingOn}
 use Rattle.book.specs.Store.{quantityOf, total, twoWords}
 use Rattle.book.specs.Words.{recordWord, sideFrom, entryAt, slotAt, slotsAt}
 use Rattle.book.specs.declared.StopEntry.{StopEntry}
-use Rattle.store_words.specs.Sums.{amount, toldSum}
-use Rattle.store_words.specs.declared.TwoWords.{TwoWords}
+use Rattle.store_words.specs.Sums.{amount}
+use Rattle.book.specs.declared.TwoWords.{TwoWords}
 
 ------------------------------------------------------------------------
 -- One record
@@ -84,8 +84,8 @@ module _ (side : Side) (w : List ℕ) (n : ℕ) where
     whole = omega (arith, total-first i h, s .whole, q, e);
   }
 
-  pub summed-all : (i : ℕ) (sum : TwoWords) → n < i → Summed side w n i sum → toldSum sum ≡ twoWords (total side (slotsAt w 1 n))
-  unfolding toldSum twoWords total slotsAt
+  pub summed-all : (i : ℕ) (sum : TwoWords) → n < i → Summed side w n i sum → sum ≡ twoWords (total side (slotsAt w 1 n))
+  unfolding twoWords total slotsAt
   summed-all i sum h s =
       let e : n + 1 - i ≡ 0 = omega (arith, s .most) in
       let whole : amount sum + 0 ≡ total side (slotsAt w 1 n) = rw e at (s .whole) in

@@ -8,10 +8,6 @@ use Rattle.pricelevel.specs.declared.Id.{Id}
 use Rattle.book.specs.Book.{Pending}
 use Rattle.book.specs.Words.{entryAt}
 
--- next by stop: the word of a record that links it in a stop chain
-abbrev pub nextByStop : ℕ
-nextByStop = 9
-
 -- the first of these records that holds the identity, or 0
 unfoldable pub firstNamed : List ℕ → Id → List ℕ → ℕ
 firstNamed w id [] = 0

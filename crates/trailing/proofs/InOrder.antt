@@ -10,17 +10,18 @@ use borrow.Table.Steps.{cases}
 use lib.Dec.{ltb, eqb}
 use Rattle.pricelevel.specs.declared.Price.{Price}
 use Rattle.pricelevel.specs.declared.Side.{Side}
-use Rattle.book.proofs.Lists.{All, all-map, all-append}
-use Rattle.book.proofs.Steps.{trailedSlot, trailedOn}
-use Rattle.book.proofs.Validity.{Valid, Fits}
+use Rattle.book.proofs.Lists.{all-map, all-append}
+use Rattle.book.specs.Lists.{All}
+use Rattle.book.specs.Steps.{trailedSlot, trailedOn}
+use Rattle.book.specs.Valid.{Valid, Fits}
 use Rattle.book.specs.Book.{Book}
 use Rattle.book.specs.Words.{chainIndices}
 use Rattle.book.specs.declared.Chain.{Chain}
 use Rattle.book.specs.declared.Chain.the-variants.{ByWatermark}
 use Rattle.chains.specs.Rank.{rankAt}
-use Rattle.form.proofs.Ascending.{Ascending}
-use Rattle.form.proofs.Members.{rankIn}
-use Rattle.trailing.proofs.Inserting.{insertBy-end, foldIn, fold-sort, fold-none, fold-next}
+use Rattle.chains.proofs.Ascending.{Ascending}
+use Rattle.chains.proofs.Ranked.{rankIn}
+use Rattle.resort.proofs.Inserting.{insertRanked-end, foldIn, fold-sort, fold-none, fold-next}
 use Rattle.trailing.proofs.Mapped.{resorted, resorts}
 use Rattle.trailing.proofs.Slots.{trailedSlot-keeps, trailedOn-valid, trailedOn-fits}
 use Rattle.trailing.specs.Trail.{stillInOrder, endsInOrder}
@@ -63,7 +64,7 @@ module _ (rk : ℕ → ℕ) where
 
   -- one that does not rank below those before it stays
   fold-stays : (x : ℕ) (f : List ℕ) (i : ℕ) (l : List ℕ) → Under x f → x ≤ rk i → foldIn rk f (i ∷ l) ≡ foldIn rk (f ++ (i ∷ [])) l
-  fold-stays x f i l u le = fold-next rk f i l ∙ ap (λ (g : List ℕ). foldIn rk g l) (insertBy-end rk i f (under-more x (rk i) f le u))
+  fold-stays x f i l u le = fold-next rk f i l ∙ ap (λ (g : List ℕ). foldIn rk g l) (insertRanked-end rk i f (under-more x (rk i) f le u))
 
   -- and so do all of a list that ascends
   pub fold-ascending : (x : ℕ) (f l : List ℕ) → Under x f → All (λ j. x ≤ rk j) l → Ascending rk l → foldIn rk f l ≡ f ++ l

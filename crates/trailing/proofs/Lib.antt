@@ -1,12 +1,9 @@
 pub mod Behind
 pub mod InOrder
-pub mod Inserting
 pub mod Mapped
 pub mod Moved
 pub mod Ordering
 pub mod Passed
-pub mod Relinking
-pub mod Resorting
 pub mod Slots
 pub mod Trailed
 pub mod Walking

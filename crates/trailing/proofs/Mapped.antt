@@ -9,23 +9,26 @@ use Rattle.pricelevel.proofs.Bools.{and-parts}
 use Rattle.pricelevel.specs.declared.Side.{Side}
 use Rattle.pricelevel.specs.declared.Side.the-variants.{Buy, Sell}
 use Rattle.book.proofs.Lists.{every-all, all-every, all-mapped}
-use Rattle.book.proofs.Validity.{Valid, SlotFits, Fits}
+use Rattle.book.proofs.Sorting.{Pairwise}
+use Rattle.book.specs.Valid.{Valid, SlotFits, Fits}
 use Rattle.book.specs.Book.{Slot, vacant, held, Book, chainSide, sideOf, withIndex, gather, ofSide, pendingOn, indices, pendingCount}
 use Rattle.book.specs.Lists.{every}
 use Rattle.book.specs.Words.{chainIndices, soundStop, differs, allDiffer, vacantIndices}
 use Rattle.book.specs.declared.Chain.{Chain}
 use Rattle.book.specs.declared.StopEntry.{StopEntry}
 use Rattle.chains.proofs.Members.{has-none, has-cases, all-has}
-use Rattle.chains.proofs.Sorting.{RanksDiffer, has-sortBy, sortBy-cong}
-use Rattle.chains.specs.Indices.{sortBy, has}
+use Rattle.chains.proofs.Sorting.{has-sortRanked, sortRanked-cong}
+use Rattle.chains.specs.Indices.{sortRanked, has, RanksDiffer}
 use Rattle.chains.specs.Rank.{rankAt}
-use Rattle.form.proofs.Ascending as ascending
-use Rattle.form.proofs.Groups.{members-ranks}
-use Rattle.form.proofs.Members.{members, rankOfSlot, rankIn, Member, members-held, chain-members}
+use Rattle.chains.proofs.Ascending.{differ-members}
+use Rattle.form_check.proofs.Groups.{members-ranks}
+use Rattle.chains.proofs.Ranked.{rankOfSlot, rankIn, chain-members}
+use Rattle.book.proofs.Members.{members, members-held}
+use Rattle.book.specs.Chains.{Member}
 use Rattle.pending_stops.proofs.ChainChanges.{chain-member}
-use Rattle.pending_stops.proofs.Holding.{Contents}
+use Rattle.pending_stops.specs.Stored.{Contents}
 use Rattle.pending_stops.proofs.Storing.{contents-rank}
-use Rattle.trailing.proofs.Inserting.{sortBy-again}
+use Rattle.resort.proofs.Inserting.{sortRanked-again}
 
 -- u is t, but for its terms, and of its side
 pub record Same (t u : StopEntry) : Type 0 where
@@ -40,15 +43,6 @@ pub record Keeps (f : Slot → Slot) : Type 0 where
 
 abbrev pub mapped : (Slot → Slot) → Book → Book
 mapped f b = record { next = b .next; tick = b .tick; slots = map f (b .slots); free = b .free }
-
--- ranks that differ one after another differ
-differ-members : (rk : ℕ → ℕ) (l : List ℕ) → ascending.RanksDiffer rk l → RanksDiffer rk l
-differ-members rk [] d i j hi hj e = absurd (has-none i hi)
-differ-members rk (k ∷ l) d i j hi hj e =
-    let Apart : ℕ → Type 0 = λ m. rk k ≡ rk m → ⊥ in
-    has-cases i k l hi
-    (λ p. has-cases j k l hj (λ q. sym p ∙ q) (λ t. absurd (all-has Apart l (d .0) j t (rw p e))))
-    (λ s. has-cases j k l hj (λ q. absurd (all-has Apart l (d .0) i s (rw q (sym e)))) (λ t. differ-members rk l (d .1) i j s t e))
 
 module _ (f : Slot → Slot) (k : Keeps f) where
   ------------------------------------------------------------------------
@@ -134,19 +128,19 @@ module _ (f : Slot → Slot) (k : Keeps f) where
         (differ-members ranked (members (chainSide c) 1 (map f (b .slots))) (members-ranks c (map f (b .slots)) (v .differ) (mf .slots)))
 
     pub resorts : RanksDiffer ranked (chainIndices c b)
-    resorts i j hi hj = differ i j (rw (chain-members c b (bf .slots), has-sortBy) at hi) (rw (chain-members c b (bf .slots), has-sortBy) at hj)
+    resorts i j hi hj = differ i j (rw (chain-members c b (bf .slots), has-sortRanked) at hi) (rw (chain-members c b (bf .slots), has-sortRanked) at hj)
 
     -- a chain, sorted anew
-    pub resorted : sortBy ranked (chainIndices c b) ≡ chainIndices c (mapped f b)
+    pub resorted : sortRanked ranked (chainIndices c b) ≡ chainIndices c (mapped f b)
     resorted =
         rw (chain-members c b (bf .slots), chain-members c (mapped f b) (mf .slots), members-mapped)
-        (sortBy-again ranked (rankIn c (b .slots)) here differ)
+        (sortRanked-again ranked (rankIn c (b .slots)) here differ)
 
     -- a chain of stops that stay
     pub unmoved : ((t : StopEntry) → chainSide c ≡ sideOf t → f (held t) ≡ held t) → chainIndices c b ≡ chainIndices c (mapped f b)
     unmoved h =
         rw (chain-members c b (bf .slots), chain-members c (mapped f b) (mf .slots), members-mapped)
-        (sortBy-cong (rankIn c (b .slots)) ranked here
+        (sortRanked-cong (rankIn c (b .slots)) ranked here
         (λ j t.
         let m = all-has (Member (chainSide c) (b .slots)) here (members-held (chainSide c) (b .slots)) j t in
         ap (rankOfSlot c) (m .there ∙ sym (h (m .entry) (m .of-side)) ∙ sym (ap f (m .there)) ∙ sym (slot-mapped (b .slots) (j - 1)))))
@@ -164,5 +158,5 @@ module _ (f : Slot → Slot) (k : Keeps f) where
       pub words-differ : RanksDiffer (rankAt c w) (chainIndices c b)
       words-differ i j hi hj e = resorts i j hi hj (sym (rank-words i hi) ∙ e ∙ rank-words j hj)
 
-      pub words-resorted : sortBy (rankAt c w) (chainIndices c b) ≡ chainIndices c (mapped f b)
-      words-resorted = sortBy-cong (rankAt c w) ranked (chainIndices c b) rank-words ∙ resorted
+      pub words-resorted : sortRanked (rankAt c w) (chainIndices c b) ≡ chainIndices c (mapped f b)
+      words-resorted = sortRanked-cong (rankAt c w) ranked (chainIndices c b) rank-words ∙ resorted

@@ -9,11 +9,11 @@ use lib.ListN.{length, getD, length-map}
 use Rattle.pricelevel.specs.declared.Price.{Price}
 use Rattle.pricelevel.specs.declared.Side.{Side}
 use Rattle.pricelevel.specs.declared.Side.the-variants.{Buy, Sell}
-use Rattle.book.proofs.Counting.{length-sort}
-use Rattle.book.proofs.Lists.{All}
+use Rattle.book.proofs.Sorting.{sortBy-length}
 use Rattle.book.proofs.Lookup.{InBook, chain-in-book}
 use Rattle.book.specs.Book.{Slot, vacant, held, Book, Pending, chainSide, sideOf, stopOf, before}
-use Rattle.book.specs.Book.{withIndex, gather, insert, sort, ofSide, pendingOn, chain, indices}
+use Rattle.book.specs.Book.{withIndex, gather, sort, ofSide, pendingOn, chain, indices}
+use Rattle.book.proofs.Sorting.{insert}
 use Rattle.book.specs.Evaluation.{trailed, changedOn, mover, movedOn}
 use Rattle.book.specs.Words.{chainIndices}
 use Rattle.book.specs.declared.Chain.{Chain}
@@ -22,6 +22,7 @@ use Rattle.book.specs.declared.StopEntry.{StopEntry}
 use Rattle.chains.proofs.Members.{has-here, has-there}
 use Rattle.chains.specs.Indices.{has}
 use Rattle.trailing.specs.Trail.{moves}
+use Rattle.book.specs.Lists.{sortBy, insertBy, All}
 
 -- of a record
 abbrev pub movesSlot : Price → Slot → ℕ
@@ -49,12 +50,12 @@ module _ (price : Price) where
   movesIn-none ss (j ∷ l) h = omega (arith, h j (has-here j l), movesIn-none ss l (λ i t. h i (has-there i j l t)))
 
   insert-moves : (c : Chain) (p : Pending) (l : List Pending) → movesOf price (insert c p l) ≡ moves price (p .entry) + movesOf price l
-  unfolding insert movesOf
+  unfolding insertBy movesOf
   insert-moves c p [] = refl
   insert-moves c p (q ∷ l) = cases (before c (p .entry) (q .entry)) (λ e. rw e) (λ e. rw (e, insert-moves c p l) (omega arith))
 
   sort-moves : (c : Chain) (l : List Pending) → movesOf price (sort c l) ≡ movesOf price l
-  unfolding sort movesOf
+  unfolding sortBy movesOf
   sort-moves c [] = refl
   sort-moves c (p ∷ l) = rw (insert-moves c p (sort c l), sort-moves c l)
 
@@ -90,9 +91,9 @@ module _ (price : Price) where
       (λ e. rw e (next-moved i t (gather (pendingOn side) (suc i) ss) (gather (mover price side) (suc i) ss) rest side (sideOf t) (rw e)))
 
   pub chain-moves : (side : Side) (b : Book) → movesIn price (b .slots) (chainIndices (ByWatermark side) b) ≡ length (movedOn price side b)
-  unfolding chainIndices chain movedOn chainSide
+  unfolding chainIndices chain movedOn
   chain-moves side b =
-      simp (length-map, length-sort)
+      simp (length-map, sortBy-length)
       (indices-moves (b .slots) (chain (ByWatermark side) (b .slots)) (chain-in-book (ByWatermark side) (b .slots))
       ∙ sort-moves (ByWatermark side) (gather (pendingOn side) 1 (b .slots))
       ∙ gather-moves side 1 (b .slots))

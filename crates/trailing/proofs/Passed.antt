@@ -12,7 +12,7 @@ use Rattle.pricelevel.specs.declared.Side.the-variants.{Buy, Sell}
 use Rattle.stop_terms.proofs.Terms.{past-trans}
 use Rattle.stop_terms.specs.Terms.{behind}
 use Rattle.book.proofs.Lists.{all-getD}
-use Rattle.book.proofs.Validity.{Valid, StopFits, SlotFits, Fits}
+use Rattle.book.specs.Valid.{Valid, StopFits, SlotFits, Fits}
 use Rattle.book.specs.Book.{Slot, vacant, held, Book, chainSide, watermarkOf, seqOf, lexicographic, before}
 use Rattle.book.specs.Words.{chainIndices}
 use Rattle.book.specs.declared.Chain.{Chain}
@@ -22,9 +22,11 @@ use Rattle.chains.proofs.Members.{has-cases, all-has}
 use Rattle.chains.proofs.Ranks.{before-rank}
 use Rattle.chains.specs.Indices.{has}
 use Rattle.chains.specs.Rank.{rank}
-use Rattle.form.proofs.Ascending.{Ascending, sortBy-ascending}
-use Rattle.form.proofs.Groups.{members-ranks}
-use Rattle.form.proofs.Members.{members, rankIn, Member, chain-members}
+use Rattle.chains.proofs.Ascending.{Ascending, sortRanked-ascending}
+use Rattle.form_check.proofs.Groups.{members-ranks}
+use Rattle.chains.proofs.Ranked.{rankIn, chain-members}
+use Rattle.book.proofs.Members.{members}
+use Rattle.book.specs.Chains.{Member}
 
 lexicographic-first : {X : Type 0} (earlier : Bool) (x y : ℕ) (tie : Bool) → lexicographic earlier x y tie ≡ true
     → (earlier ≡ true → X) → (x ≡ y → X) → X
@@ -53,7 +55,7 @@ later-past side price t u f g lt h =
 pub chain-ascending : (c : Chain) (b : Book) → Valid b → Fits b → Ascending (rankIn c (b .slots)) (chainIndices c b)
 chain-ascending c b v f =
     rw (chain-members c b (f .slots))
-    (sortBy-ascending (rankIn c (b .slots)) (members (chainSide c) 1 (b .slots)) (members-ranks c (b .slots) (v .differ) (f .slots)))
+    (sortRanked-ascending (rankIn c (b .slots)) (members (chainSide c) 1 (b .slots)) (members-ranks c (b .slots) (v .differ) (f .slots)))
 
 pub ascending-rest : (rk : ℕ → ℕ) (f l : List ℕ) → Ascending rk (f ++ l) → Ascending rk l
 ascending-rest rk [] l a = a

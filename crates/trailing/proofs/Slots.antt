@@ -9,9 +9,9 @@ use Rattle.pricelevel.specs.declared.Side.{Side}
 use Rattle.pricelevel.specs.declared.Side.the-variants.{Buy, Sell}
 use Rattle.stop_terms.specs.Terms.{behind}
 use Rattle.book.proofs.Settling.{trailed-sound, trailed-fits}
-use Rattle.book.proofs.Steps.{isSide, trailedSlot, trailedOn}
+use Rattle.book.specs.Steps.{isSide, trailedSlot, trailedOn}
 use Rattle.book.proofs.Stops.{trailed-still, trailed-keeps}
-use Rattle.book.proofs.Validity.{Valid, SlotFits, Fits}
+use Rattle.book.specs.Valid.{Valid, SlotFits, Fits}
 use Rattle.book.specs.Book.{Slot, vacant, held, Book, sideOf, stopOf, watermarkOf}
 use Rattle.book.specs.Evaluation.{trailed}
 use Rattle.book.specs.Words.{soundStop}

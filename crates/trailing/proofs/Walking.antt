@@ -12,38 +12,38 @@ use lib.Seq.{getD-set-same, getD-set-other, ext-getD, sets, length-sets}
 use Rattle.pricelevel.specs.declared.Price.{Price}
 use Rattle.pricelevel.specs.declared.Side.{Side}
 use Rattle.stop_terms.specs.Terms.{behind}
-use Rattle.book.proofs.Lists.{All, all-map}
-use Rattle.book.proofs.Steps.{trailedSlot, trailedOn}
+use Rattle.book.proofs.Lists.{all-map}
+use Rattle.book.specs.Lists.{All}
+use Rattle.book.specs.Steps.{trailedSlot, trailedOn}
 use Rattle.book.specs.Book.{Slot, vacant, held, Book, chainSide, sideOf, stopOf, watermarkOf, pendingCount}
 use Rattle.book.specs.Evaluation.{trailed, movedOn}
 use Rattle.book.specs.Words.{cell, entryAt, chainIndices}
 use Rattle.book.specs.declared.Chain.{Chain}
 use Rattle.book.specs.declared.Chain.the-variants.{ByWatermark}
 use Rattle.book.specs.declared.StopEntry.{StopEntry}
-use Rattle.chains.proofs.Data.{chained-sets}
-use Rattle.chains.proofs.Linking.{linked-distinct, linked-length}
-use Rattle.chains.proofs.Members.{has-none, has-here, has-all, distinct-absent}
-use Rattle.chains.specs.Chained.{of, Chained}
+use Rattle.chains.proofs.Linking.{linked-distinct, linked-length, wordAfter-end, linked-after}
+use Rattle.chains.proofs.Members.{has-none, has-here, has-all, distinct-absent, has-back}
+use Rattle.chains.specs.Chained.{Chained}
+use Rattle.book.specs.Chains.{headOf, linkOf, Member, chainsOf}
+use Rattle.book.specs.declared.StoreChain.the-variants.{Ordered}
 use Rattle.chains.specs.Indices.{has}
-use Rattle.chains.specs.Links.{headOf, linkOf, Linked}
+use Rattle.chains.specs.Links.{Linked, wordAfter}
 use Rattle.chains.specs.Rank.{rankAt}
-use Rattle.chains.specs.Records.{dataLength, Record}
-use Rattle.form.proofs.Ascending.{Ascending, ascending-alike}
-use Rattle.form.proofs.Members.{rankOfSlot, rankIn, Member}
+use Rattle.chains.specs.Records.{Record}
+use Rattle.chains.proofs.Ascending.{Ascending, ascending-alike}
+use Rattle.chains.proofs.Ranked.{rankOfSlot, rankIn}
 use Rattle.pending_stops.proofs.ChainChanges.{chain-member, member-chain}
-use Rattle.pending_stops.proofs.Holding.{Contents, chainsOf, stored-holds}
-use Rattle.pending_stops.proofs.Storing.{dataWords-length, contents-data, contents-entry, contents-rank}
-use Rattle.pending_stops.specs.Stored.{Stored, dataWords}
+use Rattle.pending_stops.proofs.Holding.{stored-holds}
+use Rattle.pending_stops.proofs.Storing.{contents-entry, contents-rank}
+use Rattle.pending_stops.specs.Stored.{Stored, Contents}
 use Rattle.trailing.proofs.Behind.{behind-none, behind-some}
 use Rattle.trailing.proofs.InOrder.{still-so, ends-so, ranked, Order, order-begins, order-next, order-ends}
-use Rattle.trailing.proofs.Inserting.{has-back}
 use Rattle.trailing.proofs.Mapped.{slot-mapped, pendingCount-mapped}
 use Rattle.trailing.proofs.Moved.{movesSlot, movesIn, movesIn-next, movesIn-none, chain-moves}
 use Rattle.trailing.proofs.Passed.{chain-ascending, ascending-rest, rest-past}
-use Rattle.trailing.proofs.Relinking.{wordAfter-end, linked-after, word-room}
+use Rattle.resort.proofs.Relinking.{word-room}
 use Rattle.trailing.proofs.Slots.{moves-still, trailedSlot-vacant, trailedSlot-own, trailedSlot-other, trailedSlot-still, trailedSlot-keeps}
-use Rattle.trailing.proofs.Writing.{trailed-words}
-use Rattle.trailing.specs.Resort.{wordAfter}
+use Rattle.trailing.proofs.Writing.{chained-written, contents-trailed}
 use Rattle.trailing.specs.Trail.{Names, ifBehind, moves, stillInOrder, endsInOrder, Unsorted}
 
 module _ (n : ℕ) (side : Side) (price : Price) (b : Book) (r : List ℕ) where
@@ -72,7 +72,6 @@ module _ (n : ℕ) (side : Side) (price : Price) (b : Book) (r : List ℕ) where
 
   module _ (w0 : List ℕ) (st : Stored n w0 b r) where
     pub begins : (h : ℕ) → h ≡ headOf own → Walked w0 h 0 n
-    unfolding chainSide
     begins h e =
         let s = stored-holds st in
         record {
@@ -84,7 +83,7 @@ module _ (n : ℕ) (side : Side) (price : Price) (b : Book) (r : List ℕ) where
           chained = s .chained;
           contents = s .contents;
           holds = λ j low high. cases (has j (chainIndices own b)) (λ t. rw t) (λ t. rw t (sym (other j low high t (old j) refl)));
-          short = linked-length n (linkOf own) w0 (headOf own) (chainIndices own b) (s .chained .linked (of own));
+          short = linked-length n (linkOf own) w0 (headOf own) (chainIndices own b) (s .chained .linked (Ordered own));
           count = omega (arith, chain-moves price side b);
         }
       where
@@ -97,7 +96,7 @@ module _ (n : ℕ) (side : Side) (price : Price) (b : Book) (r : List ℕ) where
 
     module _ (w : List ℕ) (p moved left : ℕ) (s : Walked w p moved left) where
       to-come : Linked n w (linkOf own) p (s .rest)
-      to-come = rw (s .at) (linked-after n w (linkOf own) (headOf own) (s .front) (s .rest) (rw (s .is) at (s .chained .linked (of own))))
+      to-come = rw (s .at) (linked-after n w (linkOf own) (headOf own) (s .front) (s .rest) (rw (s .is) at (s .chained .linked (Ordered own))))
 
       pub names : Names n w p
       names = record {
@@ -111,7 +110,6 @@ module _ (n : ℕ) (side : Side) (price : Price) (b : Book) (r : List ℕ) where
 
       -- the stop of a record to come
       member : (j : ℕ) → T (has j (s .rest)) → Member side (b .slots) j
-      unfolding chainSide
       member j t = chain-member own b (st .fits) j (rw (s .is) (has-back j (s .front) (s .rest) t))
 
       to-come-most : (j : ℕ) → T (has j (s .rest)) → j ≤ n
@@ -260,18 +258,14 @@ module _ (n : ℕ) (side : Side) (price : Price) (b : Book) (r : List ℕ) where
 
         module _ (w' : List ℕ)
             (ew : w' ≡ sets w (cell i 4) (stopOf (trailed price (entryAt w i)) ∷ watermarkOf (trailed price (entryAt w i)) ∷ [])) where
-          written : w' ≡ sets w (cell i 0) (dataWords (held (trailed price stop)))
-          written =
-              (rw (entry i here) at ew)
-              ∙ trailed-words w i stop price (λ k l. rw (waits i here) at (s .contents .words i k (m .at .least) (m .at .most) l))
-
           chained-new : Chained n w' (chainsOf b)
-          chained-new =
-              let few : length (dataWords (held (trailed price stop))) ≤ dataLength = omega (arith, dataWords-length (held (trailed price stop))) in
-              rw written (chained-sets n w (chainsOf b) i (dataWords (held (trailed price stop))) (m .at .least) few (s .chained))
+          chained-new = rw ew (chained-written n w i (m .at) _ _ (s .chained))
 
           contents-new : Contents n w' (pendingCount (b .slots)) (b .next) (b .tick) slots' r
-          contents-new = rw written (contents-data (s .contents) i (m .at) (held (trailed price stop)))
+          contents-new =
+              rw ew (contents-trailed n w i (m .at) _ _ (s .contents) price stop (waits i here)
+              (ap (λ (t : StopEntry). stopOf (trailed price t)) (entry i here))
+              (ap (λ (t : StopEntry). watermarkOf (trailed price t)) (entry i here)))
 
           goes-on : (p' moved' : ℕ) → p' ≡ cell i (linkOf own) → moved' ≡ moved + moves price (entryAt w i) → Walked w' p' moved' (left - 1)
           goes-on p' moved' ep em = record {

@@ -1,2 +1,1 @@
-pub mod Resort
 pub mod Trail

@@ -15,7 +15,8 @@ use Rattle.book.specs.declared.StopEntry.{StopEntry}
 use Rattle.chains.specs.Chained.{Chained}
 use Rattle.chains.specs.Rank.{rankAt}
 use Rattle.chains.specs.Records.{Record}
-use Rattle.pending_stops.proofs.Holding.{Contents, chainsOf}
+use Rattle.pending_stops.specs.Stored.{Contents}
+use Rattle.book.specs.Chains.{chainsOf}
 
 -- the word at p is in the slice, and names one of the n records or is 0
 pub record Names (n : ℕ) (w : List ℕ) (p : ℕ) : Type 0 where

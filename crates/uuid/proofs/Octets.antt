@@ -6,9 +6,9 @@ use native.Mathlib.Nat.{add-assoc, mod-eq-of-lt}
 use native.Mathlib.Omega.{arith}
 use lib.ListN.{take, drop}
 use lib.Pow.{mod-pow-add}
-use Rattle.sha1.proofs.BigEndian.{bigEndian-length}
-use Rattle.sha1.specs.Fips.{bigEndian, octets}
-use Rattle.sha1.specs.declared.State.{State}
+use Rattle.fips180.proofs.BigEndian.{bigEndian-length}
+use Rattle.fips180.specs.Fips.{bigEndian, octets}
+use Rattle.fips180.specs.declared.State.{State}
 use Rattle.uuid.specs.Rfc9562.{octetsOf, number, uuidOf, withVersion, withVariant, stamped}
 use Rattle.uuid.specs.declared.Uuid.{Uuid}
 

@@ -1,7 +1,7 @@
 -- The UUID of version 5 that RFC 9562 gives in appendix A.4, as a theorem of the definition: antt computes it.
 use mathlib.Core.Path.{_≡_, refl}
 use mathlib.Core.List.{[], _∷_}
-use Rattle.sha1.specs.Fips.{pad, zeros, bigEndian, schedule, nextWord, steps, step, f, K, sums, block, blocks, hash, octets, digest}
+use Rattle.fips180.specs.Fips.{pad, zeros, bigEndian, schedule, nextWord, steps, step, f, K, sums, block, blocks, hash, octets, digest}
 use Rattle.uuid.specs.Rfc9562.{octetsOf, number, uuidOf, withVersion, withVariant, stamped, v5}
 
 -- "www.example.com" in the namespace of DNS names, 6ba7b810-9dad-11d1-80b4-00c04fd430c8

@@ -2,7 +2,7 @@
 use Prim.Native.Nat.{ℕ, _+_, _*_, _%_, _^_}
 use mathlib.Core.List.{List, [], _∷_, _++_}
 use lib.ListN.{length, getD, set, take, drop}
-use Rattle.sha1.specs.Fips.{bigEndian, digest}
+use Rattle.fips180.specs.Fips.{bigEndian, digest}
 use Rattle.uuid.specs.declared.Uuid.{Uuid}
 
 -- §4: the 16 octets of a UUID, the most significant first

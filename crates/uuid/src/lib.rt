@@ -1,7 +1,7 @@
 // UUIDs of version 5 (RFC 9562).
 ghost use mathlib.Core.Path.{_≡_};
 ghost use Prim.Native.Nat.{_/_, _%_, _^_, _<_};
-ghost use Rattle.sha1.specs.Fips.{octets};
+ghost use Rattle.fips180.specs.Fips.{octets};
 ghost use Rattle.uuid.specs.Rfc9562.{octetsOf, uuidOf, stamped, v5};
 
 // The 128 bits of a UUID, the leftmost 64 first.
@@ -19,7 +19,7 @@ fn octet(x: u64, s: u64) -> u8
 }
 
 // The UUID of a hash value: its first 128 bits, with the version and the variant put in.
-fn of_hash(s: sha1::State) -> Uuid
+fn of_hash(s: fips180::State) -> Uuid
     ensures { λ r. ⌜ r ≡ uuidOf (stamped (octets s)) ⌝ }
 {
     let b = s.b as u64;

@@ -1,19 +1,17 @@
 // The calls of document 01 for hosts in C and Rust: every argument as words, under a plain name. A call returns 0 where it is accepted, else
 // the number of the refusal, and then alters nothing; before all else it asks that each kind, side, change and path flag is a known value (255).
-use host_words::answers;
-use host_words::arguments;
-use pricelevel::Price;
-use pricelevel::Quantity;
-use stop_protection::NewProtection;
-use stop_protection::StopProtection;
+use book::ElectedWords;
+use book::MovedWords;
+ghost use mathlib.Core.List.{map};
 ghost use mathlib.Core.Path.{_≡_};
+ghost use lib.ListN.{length};
+ghost use Rattle.book.specs.Calls.{written};
 ghost use Rattle.book.specs.Store.{layOut, pendingQuantity};
 ghost use Rattle.book.specs.Words.{wellFormed};
+ghost use Rattle.listing.specs.Entries.{electedWords, movedWords};
 ghost use Rattle.stop_protection.specs.Collar.{tryNew};
-ghost use Rattle.host_words.specs.Answers.{number, answered, flag, seqWords, idWords, termsWords, stopWords, segmentWords, foundWords, totalsWords, countsWords, passWords, previewWords, limitWords};
-ghost use Rattle.yubtomiq.specs.ByWords.{admitByWords, clearByWords, cancelByWords, updateByWords, findByWords, recordByWords, takeByWords, resetByWords, segmentByWords, walkByWords, passByWords, runByWords, trailedByWords, electedByWords, inconsistencyByWords, previewByWords, limitByWords, checkOf, childByWords};
-
-const UNKNOWN: u64 = 255;
+ghost use Rattle.host_words.specs.Answers.{Told, number, flag, seqWords, idWords, termsWords, stopWords, segmentWords, foundWords, totalsWords, countsWords, passWords, previewWords, limitWords};
+ghost use Rattle.host_words.specs.ByWords.{admitByWords, clearByWords, cancelByWords, updateByWords, findByWords, recordByWords, takeByWords, resetByWords, segmentByWords, walkByWords, passByWords, runByWords, trailedByWords, electedByWords, inconsistencyByWords, previewByWords, limitByWords, checkOf, childByWords};
 
 // ---------------------------------------------------------------------
 // The store
@@ -21,10 +19,11 @@ const UNKNOWN: u64 = 255;
 // Lays out an empty store of n records. Refused: 2.
 #[no_mangle]
 pub extern "C" fn yubtomiq_layout_store(s: &mut [u64], n: u64, tick: u64) -> u64
-    ensures { λ r. ⌜ r ≡ number (layOut n tick (now (s .entry)) .answer) ⌝ }
-    ensures { λ _. ⌜ now (s .exit) ≡ layOut n tick (now (s .entry)) .words ⌝ }
+    ensures { λ r. ⌜ (let o = layOut n tick (now (s .entry)) in
+        (r ≡ number (o .answer))
+        × (now (s .exit) ≡ o .words)) ⌝ }
 {
-    answers::of_layout(store_words::layout_store(s, n, tick))
+    host_store::layout_store(s, n, tick)
 }
 
 // Whether the words are a well-formed store: 1 or 0.
@@ -32,7 +31,7 @@ pub extern "C" fn yubtomiq_layout_store(s: &mut [u64], n: u64, tick: u64) -> u64
 pub extern "C" fn yubtomiq_well_formed(s: &[u64]) -> u64
     ensures { λ r. ⌜ r ≡ flag (wellFormed (now (s .entry))) ⌝ }
 {
-    answers::flag(form::well_formed(s))
+    host_store::well_formed(s)
 }
 
 // Admits a stop, and answers its sequence. Refused: 255, 1, 3 to 11.
@@ -47,31 +46,12 @@ pub extern "C" fn yubtomiq_admit_trailing_stop(
     quantity: u64,
     answer: &mut [u64; 1],
 ) -> u64
-    ensures { λ r. ⌜ r ≡ number (admitByWords kill (now (trade .entry)) (now (id .entry)) (now (terms .entry)) quantity
-        (now (s .entry)) (now (path .entry)) .answer) ⌝ }
-    ensures { λ _. ⌜ now (s .exit) ≡ admitByWords kill (now (trade .entry)) (now (id .entry)) (now (terms .entry)) quantity
-        (now (s .entry)) (now (path .entry)) .words ⌝ }
-    ensures { λ _. ⌜ now (path .exit) ≡ admitByWords kill (now (trade .entry)) (now (id .entry)) (now (terms .entry)) quantity
-        (now (s .entry)) (now (path .entry)) .path ⌝ }
-    ensures { λ _. ⌜ now (answer .exit) ≡ answered seqWords (admitByWords kill (now (trade .entry)) (now (id .entry)) (now (terms .entry)) quantity
-        (now (s .entry)) (now (path .entry)) .answer) (now (answer .entry)) ⌝ }
+    ensures { λ r. ⌜ (let o = admitByWords kill (now (trade .entry)) (now (id .entry)) (now (terms .entry)) quantity (now (s .entry)) (now (path .entry)) in
+        Told seqWords (o .answer) (now (answer .entry)) r (now (answer .exit))
+        × (now (s .exit) ≡ o .words)
+        × (now (path .exit) ≡ o .path)) ⌝ }
 {
-    if !arguments::admission_known(id, terms, path) {
-        return UNKNOWN;
-    }
-    let admitted = admission::admit_trailing_stop(
-        s,
-        arguments::path_of(path),
-        kill != 0,
-        arguments::last_price_of(trade),
-        arguments::id_of(id),
-        arguments::terms_of(terms),
-        Quantity(quantity),
-    );
-    let after = admitted.path;
-    *path = answers::path_words(after);
-    let given = admitted.answer;
-    answers::of_admission(given, answer)
+    host_admission::admit_trailing_stop(s, path, kill, trade, id, terms, quantity, answer)
 }
 
 // Changes the pending stop of an identity, and answers it after the change, or before it where a quantity of zero cancels. Refused: 255, 1,
@@ -84,21 +64,11 @@ pub extern "C" fn yubtomiq_update_pending_stop(
     trade: &[u64; 2],
     answer: &mut [u64; 9],
 ) -> u64
-    ensures { λ r. ⌜ r ≡ number (updateByWords (now (id .entry)) (now (update .entry)) (now (trade .entry)) (now (s .entry)) .answer) ⌝ }
-    ensures { λ _. ⌜ now (s .exit) ≡ updateByWords (now (id .entry)) (now (update .entry)) (now (trade .entry)) (now (s .entry)) .words ⌝ }
-    ensures { λ _. ⌜ now (answer .exit) ≡ answered stopWords
-        (updateByWords (now (id .entry)) (now (update .entry)) (now (trade .entry)) (now (s .entry)) .answer) (now (answer .entry)) ⌝ }
+    ensures { λ r. ⌜ (let o = updateByWords (now (id .entry)) (now (update .entry)) (now (trade .entry)) (now (s .entry)) in
+        Told stopWords (o .answer) (now (answer .entry)) r (now (answer .exit))
+        × (now (s .exit) ≡ o .words)) ⌝ }
 {
-    if !arguments::change_known(id, update) {
-        return UNKNOWN;
-    }
-    let changed = admission::update_pending_stop(
-        s,
-        arguments::id_of(id),
-        arguments::update_of(update),
-        arguments::last_price_of(trade),
-    );
-    answers::of_stop(changed, answer)
+    host_stops::update_pending_stop(s, id, update, trade, answer)
 }
 
 // Takes the pending stop of an identity out, and answers it. Refused: 255, 1, 12.
@@ -108,15 +78,11 @@ pub extern "C" fn yubtomiq_cancel_pending_stop(
     id: &[u64; 3],
     answer: &mut [u64; 9],
 ) -> u64
-    ensures { λ r. ⌜ r ≡ number (cancelByWords (now (id .entry)) (now (s .entry)) .answer) ⌝ }
-    ensures { λ _. ⌜ now (s .exit) ≡ cancelByWords (now (id .entry)) (now (s .entry)) .words ⌝ }
-    ensures { λ _. ⌜ now (answer .exit) ≡ answered stopWords (cancelByWords (now (id .entry)) (now (s .entry)) .answer) (now (answer .entry)) ⌝ }
+    ensures { λ r. ⌜ (let o = cancelByWords (now (id .entry)) (now (s .entry)) in
+        Told stopWords (o .answer) (now (answer .entry)) r (now (answer .exit))
+        × (now (s .exit) ≡ o .words)) ⌝ }
 {
-    if !arguments::id_known(id) {
-        return UNKNOWN;
-    }
-    let cancelled = admission::cancel_pending_stop(s, arguments::id_of(id));
-    answers::of_stop(cancelled, answer)
+    host_stops::cancel_pending_stop(s, id, answer)
 }
 
 // Answers the pending stop of an identity, if there is one; the store is only read. Refused: 255, 1.
@@ -126,40 +92,28 @@ pub extern "C" fn yubtomiq_pending_stop_order(
     id: &[u64; 3],
     answer: &mut [u64; 10],
 ) -> u64
-    ensures { λ r. ⌜ r ≡ number (findByWords (now (id .entry)) (now (s .entry))) ⌝ }
-    ensures { λ _. ⌜ now (answer .exit) ≡ answered foundWords (findByWords (now (id .entry)) (now (s .entry))) (now (answer .entry)) ⌝ }
+    ensures { λ r. ⌜ Told foundWords (findByWords (now (id .entry)) (now (s .entry))) (now (answer .entry)) r (now (answer .exit)) ⌝ }
 {
-    if !arguments::id_known(id) {
-        return UNKNOWN;
-    }
-    let found = admission::pending_stop_order(s, arguments::id_of(id));
-    answers::of_find(found, answer)
+    host_stops::pending_stop_order(s, id, answer)
 }
 
 // Answers the pending quantity of each side; the store is only read. Refused: 1.
 #[no_mangle]
 pub extern "C" fn yubtomiq_pending_stop_quantity(s: &[u64], answer: &mut [u64; 4]) -> u64
-    ensures { λ r. ⌜ r ≡ number (pendingQuantity (now (s .entry))) ⌝ }
-    ensures { λ _. ⌜ now (answer .exit) ≡ answered totalsWords (pendingQuantity (now (s .entry))) (now (answer .entry)) ⌝ }
+    ensures { λ r. ⌜ Told totalsWords (pendingQuantity (now (s .entry))) (now (answer .entry)) r (now (answer .exit)) ⌝ }
 {
-    answers::of_quantity(admission::pending_stop_quantity(s), answer)
+    host_store::pending_stop_quantity(s, answer)
 }
 
 // Lays the store out anew with the same number of records and tick, and resets the path. Refused: 255, 1.
 #[no_mangle]
 pub extern "C" fn yubtomiq_clear(s: &mut [u64], path: &mut [u64; 4]) -> u64
-    ensures { λ r. ⌜ r ≡ number (clearByWords (now (s .entry)) (now (path .entry)) .answer) ⌝ }
-    ensures { λ _. ⌜ now (s .exit) ≡ clearByWords (now (s .entry)) (now (path .entry)) .words ⌝ }
-    ensures { λ _. ⌜ now (path .exit) ≡ clearByWords (now (s .entry)) (now (path .entry)) .path ⌝ }
+    ensures { λ r. ⌜ (let o = clearByWords (now (s .entry)) (now (path .entry)) in
+        (r ≡ number (o .answer))
+        × (now (s .exit) ≡ o .words)
+        × (now (path .exit) ≡ o .path)) ⌝ }
 {
-    if !arguments::path_known(path) {
-        return UNKNOWN;
-    }
-    let cleared = admission::clear(s, arguments::path_of(path));
-    let after = cleared.path;
-    *path = answers::path_words(after);
-    let given = cleared.answer;
-    answers::of_layout(given)
+    host_store::clear(s, path)
 }
 
 // ---------------------------------------------------------------------
@@ -173,21 +127,11 @@ pub extern "C" fn yubtomiq_record_print(
     prev: &[u64; 2],
     price: u64,
 ) -> u64
-    ensures { λ r. ⌜ r ≡ number (recordByWords pending (now (prev .entry)) price (now (path .entry)) .answer) ⌝ }
-    ensures { λ _. ⌜ now (path .exit) ≡ recordByWords pending (now (prev .entry)) price (now (path .entry)) .path ⌝ }
+    ensures { λ r. ⌜ (let o = recordByWords pending (now (prev .entry)) price (now (path .entry)) in
+        (r ≡ number (o .answer))
+        × (now (path .exit) ≡ o .path)) ⌝ }
 {
-    if !arguments::path_known(path) {
-        return UNKNOWN;
-    }
-    let before = arguments::path_of(path);
-    let after = print_path::recorded(
-        before,
-        pending,
-        arguments::last_price_of(prev),
-        Price(price),
-    );
-    *path = answers::path_words(after);
-    0
+    host_path::record_print(path, pending, prev, price)
 }
 
 // Takes the path's segment, up to the last trade, closes the path, and answers the segment if there was one. Refused: 255.
@@ -197,34 +141,21 @@ pub extern "C" fn yubtomiq_take_path(
     trade: &[u64; 2],
     answer: &mut [u64; 5],
 ) -> u64
-    ensures { λ r. ⌜ r ≡ number (takeByWords (now (trade .entry)) (now (path .entry)) .answer) ⌝ }
-    ensures { λ _. ⌜ now (path .exit) ≡ takeByWords (now (trade .entry)) (now (path .entry)) .path ⌝ }
-    ensures { λ _. ⌜ now (answer .exit) ≡ answered segmentWords (takeByWords (now (trade .entry)) (now (path .entry)) .answer)
-        (now (answer .entry)) ⌝ }
+    ensures { λ r. ⌜ (let o = takeByWords (now (trade .entry)) (now (path .entry)) in
+        Told segmentWords (o .answer) (now (answer .entry)) r (now (answer .exit))
+        × (now (path .exit) ≡ o .path)) ⌝ }
 {
-    if !arguments::path_known(path) {
-        return UNKNOWN;
-    }
-    let taken = print_path::taken(arguments::path_of(path), arguments::last_price_of(trade));
-    let after = taken.path;
-    *path = answers::path_words(after);
-    let next = taken.segment;
-    *answer = answers::segment_words(next);
-    0
+    host_path::take_path(path, trade, answer)
 }
 
 // Closes the path. Refused: 255.
 #[no_mangle]
 pub extern "C" fn yubtomiq_reset_path(path: &mut [u64; 4]) -> u64
-    ensures { λ r. ⌜ r ≡ number (resetByWords (now (path .entry)) .answer) ⌝ }
-    ensures { λ _. ⌜ now (path .exit) ≡ resetByWords (now (path .entry)) .path ⌝ }
+    ensures { λ r. ⌜ (let o = resetByWords (now (path .entry)) in
+        (r ≡ number (o .answer))
+        × (now (path .exit) ≡ o .path)) ⌝ }
 {
-    if !arguments::path_known(path) {
-        return UNKNOWN;
-    }
-    let after = print_path::closed(arguments::path_of(path));
-    *path = answers::path_words(after);
-    0
+    host_path::reset_path(path)
 }
 
 // ---------------------------------------------------------------------
@@ -236,24 +167,18 @@ pub extern "C" fn yubtomiq_segment(
     s: &mut [u64],
     settings: &[u64; 4],
     prints: &[u64; 4],
-    elected: &mut [[u64; 13]],
-    moved: &mut [[u64; 4]],
+    elected: &mut [ElectedWords],
+    moved: &mut [MovedWords],
     answer: &mut [u64; 2],
 ) -> u64
-    ensures { λ r. ⌜ r ≡ number (segmentByWords (now (settings .entry)) (now (prints .entry)) (now (s .entry)) (now (elected .entry))
-        (now (moved .entry)) .answer) ⌝ }
-    ensures { λ _. ⌜ now (s .exit) ≡ segmentByWords (now (settings .entry)) (now (prints .entry)) (now (s .entry)) (now (elected .entry))
-        (now (moved .entry)) .words ⌝ }
-    ensures { λ _. ⌜ now (elected .exit) ≡ segmentByWords (now (settings .entry)) (now (prints .entry)) (now (s .entry)) (now (elected .entry))
-        (now (moved .entry)) .elected ⌝ }
-    ensures { λ _. ⌜ now (moved .exit) ≡ segmentByWords (now (settings .entry)) (now (prints .entry)) (now (s .entry)) (now (elected .entry))
-        (now (moved .entry)) .moved ⌝ }
-    ensures { λ _. ⌜ now (answer .exit) ≡ answered countsWords (segmentByWords (now (settings .entry)) (now (prints .entry)) (now (s .entry))
-        (now (elected .entry)) (now (moved .entry)) .answer) (now (answer .entry)) ⌝ }
+    ensures { λ r. ⌜ (let o = segmentByWords (now (settings .entry)) (now (prints .entry)) (now (s .entry)) (length (now (elected .entry)))
+        (length (now (moved .entry))) in
+        Told countsWords (o .answer) (now (answer .entry)) r (now (answer .exit))
+        × (now (s .exit) ≡ o .words)
+        × (now (elected .exit) ≡ written (map electedWords (o .elected)) (now (elected .entry)))
+        × (now (moved .exit) ≡ written (map movedWords (o .moved)) (now (moved .entry)))) ⌝ }
 {
-    let of = arguments::settings_of(settings);
-    let evaluated = evaluation::segment(s, of, arguments::prints_of(prints), elected, moved);
-    answers::of_evaluation(evaluated, answer)
+    host_evaluation::segment(s, settings, prints, elected, moved, answer)
 }
 
 // A walk, which lists the elected, and answers how many moves and elected there were. Refused: 1, 14, 16.
@@ -263,21 +188,15 @@ pub extern "C" fn yubtomiq_walk(
     settings: &[u64; 4],
     prev: &[u64; 2],
     prices: &[u64],
-    elected: &mut [[u64; 13]],
+    elected: &mut [ElectedWords],
     answer: &mut [u64; 2],
 ) -> u64
-    ensures { λ r. ⌜ r ≡ number (walkByWords (now (settings .entry)) (now (prev .entry)) (now (prices .entry)) (now (s .entry))
-        (now (elected .entry)) .answer) ⌝ }
-    ensures { λ _. ⌜ now (s .exit) ≡ walkByWords (now (settings .entry)) (now (prev .entry)) (now (prices .entry)) (now (s .entry))
-        (now (elected .entry)) .words ⌝ }
-    ensures { λ _. ⌜ now (elected .exit) ≡ walkByWords (now (settings .entry)) (now (prev .entry)) (now (prices .entry)) (now (s .entry))
-        (now (elected .entry)) .elected ⌝ }
-    ensures { λ _. ⌜ now (answer .exit) ≡ answered countsWords (walkByWords (now (settings .entry)) (now (prev .entry)) (now (prices .entry))
-        (now (s .entry)) (now (elected .entry)) .answer) (now (answer .entry)) ⌝ }
+    ensures { λ r. ⌜ (let o = walkByWords (now (settings .entry)) (now (prev .entry)) (now (prices .entry)) (now (s .entry)) (length (now (elected .entry))) in
+        Told countsWords (o .answer) (now (answer .entry)) r (now (answer .exit))
+        × (now (s .exit) ≡ o .words)
+        × (now (elected .exit) ≡ written (map electedWords (o .elected)) (now (elected .entry)))) ⌝ }
 {
-    let of = arguments::settings_of(settings);
-    let evaluated = evaluation::walk(s, of, arguments::last_price_of(prev), prices, elected);
-    answers::of_evaluation(evaluated, answer)
+    host_evaluation::walk(s, settings, prev, prices, elected, answer)
 }
 
 // A pass, which lists the elected, and answers how many moves, elected and used script entries there were. Refused: 1, 14, 15.
@@ -287,22 +206,15 @@ pub extern "C" fn yubtomiq_evaluate_pending_stops(
     settings: &[u64; 4],
     script: &[u64],
     prints: &[u64; 4],
-    elected: &mut [[u64; 13]],
+    elected: &mut [ElectedWords],
     answer: &mut [u64; 3],
 ) -> u64
-    ensures { λ r. ⌜ r ≡ number (passByWords (now (settings .entry)) (now (script .entry)) (now (prints .entry)) (now (s .entry))
-        (now (elected .entry)) .answer) ⌝ }
-    ensures { λ _. ⌜ now (s .exit) ≡ passByWords (now (settings .entry)) (now (script .entry)) (now (prints .entry)) (now (s .entry))
-        (now (elected .entry)) .words ⌝ }
-    ensures { λ _. ⌜ now (elected .exit) ≡ passByWords (now (settings .entry)) (now (script .entry)) (now (prints .entry)) (now (s .entry))
-        (now (elected .entry)) .elected ⌝ }
-    ensures { λ _. ⌜ now (answer .exit) ≡ answered passWords (passByWords (now (settings .entry)) (now (script .entry)) (now (prints .entry))
-        (now (s .entry)) (now (elected .entry)) .answer) (now (answer .entry)) ⌝ }
+    ensures { λ r. ⌜ (let o = passByWords (now (settings .entry)) (now (script .entry)) (now (prints .entry)) (now (s .entry)) (length (now (elected .entry))) in
+        Told passWords (o .answer) (now (answer .entry)) r (now (answer .exit))
+        × (now (s .exit) ≡ o .words)
+        × (now (elected .exit) ≡ written (map electedWords (o .elected)) (now (elected .entry)))) ⌝ }
 {
-    let of = arguments::settings_of(settings);
-    let first = arguments::prints_of(prints);
-    let passed = evaluation::evaluate_pending_stops(s, of, script, first, elected);
-    answers::of_pass(passed, answer)
+    host_passes::evaluate_pending_stops(s, settings, script, prints, elected, answer)
 }
 
 // A run over path and store, up to the last trade: a pass over the path's segment, and the path reset; nothing where no stop is pending or the
@@ -314,30 +226,17 @@ pub extern "C" fn yubtomiq_run_stop_triggers(
     settings: &[u64; 4],
     script: &[u64],
     trade: &[u64; 2],
-    elected: &mut [[u64; 13]],
+    elected: &mut [ElectedWords],
     answer: &mut [u64; 3],
 ) -> u64
-    ensures { λ r. ⌜ r ≡ number (runByWords (now (settings .entry)) (now (script .entry)) (now (trade .entry)) (now (s .entry))
-        (now (elected .entry)) (now (path .entry)) .answer) ⌝ }
-    ensures { λ _. ⌜ now (s .exit) ≡ runByWords (now (settings .entry)) (now (script .entry)) (now (trade .entry)) (now (s .entry))
-        (now (elected .entry)) (now (path .entry)) .words ⌝ }
-    ensures { λ _. ⌜ now (path .exit) ≡ runByWords (now (settings .entry)) (now (script .entry)) (now (trade .entry)) (now (s .entry))
-        (now (elected .entry)) (now (path .entry)) .path ⌝ }
-    ensures { λ _. ⌜ now (elected .exit) ≡ runByWords (now (settings .entry)) (now (script .entry)) (now (trade .entry)) (now (s .entry))
-        (now (elected .entry)) (now (path .entry)) .elected ⌝ }
-    ensures { λ _. ⌜ now (answer .exit) ≡ answered passWords (runByWords (now (settings .entry)) (now (script .entry)) (now (trade .entry))
-        (now (s .entry)) (now (elected .entry)) (now (path .entry)) .answer) (now (answer .entry)) ⌝ }
+    ensures { λ r. ⌜ (let o = runByWords (now (settings .entry)) (now (script .entry)) (now (trade .entry)) (now (s .entry)) (length (now (elected .entry)))
+        (now (path .entry)) in
+        Told passWords (o .answer) (now (answer .entry)) r (now (answer .exit))
+        × (now (s .exit) ≡ o .words)
+        × (now (elected .exit) ≡ written (map electedWords (o .elected)) (now (elected .entry)))
+        × (now (path .exit) ≡ o .path)) ⌝ }
 {
-    if !arguments::path_known(path) {
-        return UNKNOWN;
-    }
-    let of = arguments::settings_of(settings);
-    let last = arguments::last_price_of(trade);
-    let run = evaluation::run_stop_triggers(s, arguments::path_of(path), of, script, last, elected);
-    let after = run.path;
-    *path = answers::path_words(after);
-    let given = run.answer;
-    answers::of_pass(given, answer)
+    host_passes::run_stop_triggers(s, path, settings, script, trade, elected, answer)
 }
 
 // ---------------------------------------------------------------------
@@ -346,15 +245,9 @@ pub extern "C" fn yubtomiq_run_stop_triggers(
 // Answers the terms after a trade. Refused: 255.
 #[no_mangle]
 pub extern "C" fn yubtomiq_trailed(terms: &[u64; 4], price: u64, answer: &mut [u64; 4]) -> u64
-    ensures { λ r. ⌜ r ≡ number (trailedByWords (now (terms .entry)) price) ⌝ }
-    ensures { λ _. ⌜ now (answer .exit) ≡ answered termsWords (trailedByWords (now (terms .entry)) price) (now (answer .entry)) ⌝ }
+    ensures { λ r. ⌜ Told termsWords (trailedByWords (now (terms .entry)) price) (now (answer .entry)) r (now (answer .exit)) ⌝ }
 {
-    if !arguments::terms_known(terms) {
-        return UNKNOWN;
-    }
-    let of = arguments::terms_of(terms);
-    *answer = answers::terms_words(of.trailed(Price(price)));
-    0
+    host_terms::trailed(terms, price, answer)
 }
 
 // Whether a trade elects the stop: 1 or 0; or 255.
@@ -362,11 +255,7 @@ pub extern "C" fn yubtomiq_trailed(terms: &[u64; 4], price: u64, answer: &mut [u
 pub extern "C" fn yubtomiq_elected_by(terms: &[u64; 4], price: u64) -> u64
     ensures { λ r. ⌜ r ≡ electedByWords (now (terms .entry)) price ⌝ }
 {
-    if !arguments::terms_known(terms) {
-        return UNKNOWN;
-    }
-    let of = arguments::terms_of(terms);
-    answers::flag(of.elected_by(Price(price)))
+    host_terms::elected_by(terms, price)
 }
 
 // The inconsistency of the terms: 0 for none, a trail of zero (5), a stop on the wrong side of its watermark (6); or 255.
@@ -374,11 +263,7 @@ pub extern "C" fn yubtomiq_elected_by(terms: &[u64; 4], price: u64) -> u64
 pub extern "C" fn yubtomiq_inconsistency(terms: &[u64; 4]) -> u64
     ensures { λ r. ⌜ r ≡ inconsistencyByWords (now (terms .entry)) ⌝ }
 {
-    if !arguments::terms_known(terms) {
-        return UNKNOWN;
-    }
-    let of = arguments::terms_of(terms);
-    answers::of_inconsistency(of.inconsistency())
+    host_terms::inconsistency(terms)
 }
 
 // Answers the preview of a trailing stop: the new stop and reference, if there are any. Refused: 255.
@@ -391,22 +276,18 @@ pub extern "C" fn yubtomiq_calculate_trailing_stop_price(
     current_market_price: u64,
     answer: &mut [u64; 3],
 ) -> u64
-    ensures { λ r. ⌜ r ≡ number (previewByWords side «current_stop_price» «trail_amount» «last_reference_price» «current_market_price») ⌝ }
-    ensures { λ _. ⌜ now (answer .exit) ≡ answered previewWords
-        (previewByWords side «current_stop_price» «trail_amount» «last_reference_price» «current_market_price») (now (answer .entry)) ⌝ }
+    ensures { λ r. ⌜ Told previewWords
+        (previewByWords side «current_stop_price» «trail_amount» «last_reference_price» «current_market_price»)
+        (now (answer .entry)) r (now (answer .exit)) ⌝ }
 {
-    if !arguments::side_known(side) {
-        return UNKNOWN;
-    }
-    let next = repricing::calculate_trailing_stop_price(
-        store_words::side_from(side),
-        Price(current_stop_price),
+    host_terms::calculate_trailing_stop_price(
+        side,
+        current_stop_price,
         trail_amount,
-        Price(last_reference_price),
-        Price(current_market_price),
-    );
-    *answer = answers::preview_words(next);
-    0
+        last_reference_price,
+        current_market_price,
+        answer,
+    )
 }
 
 // Answers the limit of a stop's order under a collar, if there is one. Refused: 255.
@@ -417,16 +298,9 @@ pub extern "C" fn yubtomiq_limit_price(
     stop_price: u64,
     answer: &mut [u64; 2],
 ) -> u64
-    ensures { λ r. ⌜ r ≡ number (limitByWords collar side «stop_price») ⌝ }
-    ensures { λ _. ⌜ now (answer .exit) ≡ answered limitWords (limitByWords collar side «stop_price») (now (answer .entry)) ⌝ }
+    ensures { λ r. ⌜ Told limitWords (limitByWords collar side «stop_price») (now (answer .entry)) r (now (answer .exit)) ⌝ }
 {
-    if !arguments::side_known(side) {
-        return UNKNOWN;
-    }
-    let protection = arguments::protection_of(collar);
-    let limit = protection.limit(store_words::side_from(side), Price(stop_price));
-    *answer = answers::limit_words(limit);
-    0
+    host_children::limit_price(collar, side, stop_price, answer)
 }
 
 // Whether a collar can be made. Refused: 17.
@@ -434,7 +308,7 @@ pub extern "C" fn yubtomiq_limit_price(
 pub extern "C" fn yubtomiq_check_collar(collar: u64) -> u64
     ensures { λ r. ⌜ r ≡ number (tryNew collar) ⌝ }
 {
-    answers::of_collar(StopProtection::try_new(collar))
+    host_children::check_collar(collar)
 }
 
 // Whether a collar that can be made lies on a tick. Refused: 17, 18.
@@ -442,11 +316,7 @@ pub extern "C" fn yubtomiq_check_collar(collar: u64) -> u64
 pub extern "C" fn yubtomiq_check_tick_size(collar: u64, tick_size: u64) -> u64
     ensures { λ r. ⌜ r ≡ number (checkOf «tick_size» (tryNew collar)) ⌝ }
 {
-    let made = StopProtection::try_new(collar);
-    match made {
-        NewProtection::Ok(protection) => answers::of_check(protection.check_tick_size(tick_size)),
-        NewProtection::Err(e) => e.number(),
-    }
+    host_children::check_tick_size(collar, tick_size)
 }
 
 // Answers the identity of the child order of a stop. Refused: 255.
@@ -456,13 +326,7 @@ pub extern "C" fn yubtomiq_stop_trigger_order_id(
     id: &[u64; 3],
     answer: &mut [u64; 3],
 ) -> u64
-    ensures { λ r. ⌜ r ≡ number (childByWords (now (namespace .entry)) (now (id .entry))) ⌝ }
-    ensures { λ _. ⌜ now (answer .exit) ≡ answered idWords (childByWords (now (namespace .entry)) (now (id .entry))) (now (answer .entry)) ⌝ }
+    ensures { λ r. ⌜ Told idWords (childByWords (now (namespace .entry)) (now (id .entry))) (now (answer .entry)) r (now (answer .exit)) ⌝ }
 {
-    if !arguments::id_known(id) {
-        return UNKNOWN;
-    }
-    let of = arguments::namespace_of(namespace);
-    *answer = answers::id_words(stop_trigger::stop_trigger_order_id(of, arguments::id_of(id)));
-    0
+    host_children::stop_trigger_order_id(namespace, id, answer)
 }

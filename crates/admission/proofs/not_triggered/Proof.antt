@@ -1,7 +1,6 @@
 -- `admission::not_triggered` meets its contract.
 use Rattle.book.specs.Store.{notTriggered}
 use borrow.Author.Needs.{needs}
-use borrow.Author.Needs.{needs}
 use Rattle.admission.proofs.not_triggered.Statement.{statement}
 use Rattle.admission.proofs.not_triggered.Tie as tie
 

@@ -1,7 +1,6 @@
 -- `admission::path_after` meets its contract.
 use borrow.Author.Tests.{ne-eqb}
 use borrow.Author.Needs.{needs}
-use borrow.Author.Needs.{needs}
 use Rattle.admission.proofs.path_after.Statement.{statement}
 use Rattle.admission.proofs.path_after.Tie as tie
 

@@ -1,7 +1,6 @@
 -- `admission::within_watermark` meets its contract.
 use Rattle.book.specs.Store.{withinWatermark}
 use borrow.Author.Needs.{needs}
-use borrow.Author.Needs.{needs}
 use Rattle.admission.proofs.within_watermark.Statement.{statement}
 use Rattle.admission.proofs.within_watermark.Tie as tie
 

@@ -3,7 +3,7 @@ use native.Mathlib.Omega.{arith}
 use mathlib.Core.Path.{sym, _∙_}
 use borrow.Author.Needs.{needs}
 use Rattle.chains.proofs.Cells.{cell-below}
-use Rattle.chains.specs.Chained.{of}
+use Rattle.book.specs.declared.StoreChain.the-variants.{Ordered}
 use Rattle.electing.proofs.Dropping.{Passing, passing-first, passing-places, passing-end, passing-record, passing-left, passing-keep, passing-drop}
 use Rattle.electing.proofs.drop_elected.Statement.{statement}
 use Rattle.electing.proofs.drop_elected.Tie as tie
@@ -17,7 +17,7 @@ abbrev μ-loop : tie.MeasureT-loop
 loop-holds : tie.Need-loop-holds Inv-loop μ-loop
 loop-holds c =
     let (ch, h) = c .before .before .before .pre in
-    passing-first _ _ _ _ _ (of (c .before .before .before .args .c)) (c .before .link-of .ensures) (c .head-of .ensures) ch h
+    passing-first _ _ _ _ _ (Ordered (c .before .before .before .args .c)) (c .before .link-of .ensures) (c .head-of .ensures) ch h
 
 mul-i : tie.Need-mul-i Inv-loop μ-loop
 mul-i c = let q = passing-places (c .loop .inv) in omega (arith, q .low, q .few)

@@ -4,7 +4,7 @@ use mathlib.Core.Path.{sym, _∙_}
 use borrow.Author.Needs.{needs}
 use Rattle.book.specs.declared.Chain.the-variants.{ByStop}
 use Rattle.chains.proofs.Names.{name-stands}
-use Rattle.chains.specs.Chained.{of}
+use Rattle.book.specs.declared.StoreChain.the-variants.{Ordered}
 use Rattle.electing.proofs.Heads.{head-record, firstElected-end, firstElected-yes, firstElected-no}
 use Rattle.electing.proofs.first_elected.Statement.{statement}
 use Rattle.electing.proofs.first_elected.Tie as tie
@@ -13,12 +13,12 @@ head-of-requires : tie.Need-head-of-requires
 head-of-requires c κs = search needs
 
 mul-i : tie.Need-mul-i
-mul-i c = omega (arith, c .head-of .ensures, name-stands (of (ByStop (c .before .before .args .side))) .high)
+mul-i c = omega (arith, c .head-of .ensures, name-stands (Ordered (ByStop (c .before .before .args .side))) .high)
 
 shared-slice-read-i : tie.Need-shared-slice-read-i
 shared-slice-read-i c =
     let (ch, h) = c .before .before .before .pre in
-    omega (arith, c .before .head-of .ensures, name-stands (of (ByStop (c .before .before .before .args .side))) .high, h .inside .room)
+    omega (arith, c .before .head-of .ensures, name-stands (Ordered (ByStop (c .before .before .before .args .side))) .high, h .inside .room)
 
 returns : tie.Need-returns
 returns c = firstElected-end _ _ _ _ (c .before .before .head-of .ensures) (c .if1 .taken)
@@ -26,7 +26,7 @@ returns c = firstElected-end _ _ _ _ (c .before .before .head-of .ensures) (c .i
 terms-at-requires : tie.Need-terms-at-requires
 terms-at-requires c κs =
     let (ch, h) = c .before .before .before .before .pre in
-    head-record _ _ ch h (of (ByStop (c .before .before .before .before .args .side))) _ (c .before .before .head-of .ensures) (c .if1 .left)
+    head-record _ _ ch h (Ordered (ByStop (c .before .before .before .before .args .side))) _ (c .before .before .head-of .ensures) (c .if1 .left)
 
 elected-by-requires : tie.Need-elected-by-requires
 elected-by-requires c κs = search needs

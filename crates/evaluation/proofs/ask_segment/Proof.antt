@@ -1,61 +1,47 @@
--- `evaluation::ask_segment` meets its contract: each return is the first question that is answered no.
-use mathlib.Core.Path.{sym, _∙_}
+-- `evaluation::ask_segment` meets its contract: question by question, after that of the form.
+use mathlib.Core.Path.{refl, sym, _∙_}
 use native.Mathlib.Omega.{arith}
+use borrow.Author.Needs.{needs}
 use borrow.Author.Tests.{not-true, not-false}
+use Rattle.error.proofs.Questions.{asked-next, asked-both, asked-first, first-no}
 use Rattle.error.specs.Verdict.{toldVerdict}
+use Rattle.book.specs.Calls.{segmentQuestions}
 use Rattle.store_words.proofs.ChainsOf.{wellFormed-room}
-use Rattle.evaluation.proofs.Asking.{count-few, segment-unformed, segment-few-elected, segment-few-moved, segment-asked}
-use borrow.Author.Needs.{needs}
-use borrow.Author.Needs.{needs}
+use Rattle.evaluation.proofs.Asking.{count-word, count-few}
 use Rattle.evaluation.proofs.ask_segment.Statement.{statement}
 use Rattle.evaluation.proofs.ask_segment.Tie as tie
 
-well-formed-requires : tie.Need-well-formed-requires
-well-formed-requires c κs = search needs
-
 returns : tie.Need-returns
-unfolding toldVerdict
-returns c = segment-unformed _ _ _ (sym (c .before .well-formed .ensures) ∙ not-true _ (c .if1 .taken))
+unfolding toldVerdict segmentQuestions
+returns c = sym (first-no _ _ _ (sym (c .before .well-formed .ensures) ∙ not-true _ (c .if1 .taken)))
 
 shared-slice-read-count : tie.Need-shared-slice-read-count
 shared-slice-read-count c =
-    let b = c .before in
-    omega (arith, wellFormed-room _ (sym (b .before .well-formed .ensures) ∙ not-false _ (b .if1 .left)) .room)
+    let f = c .before in
+    omega (arith, wellFormed-room _ (sym (f .before .well-formed .ensures) ∙ not-false _ (f .if1 .left)) .room)
+
+mul-ask : tie.Need-mul-ask
+mul-ask c =
+    let f = c .before .before in
+    omega (arith, count-few _ (sym (f .before .well-formed .ensures) ∙ not-false _ (f .if1 .left)))
 
 returns-2 : tie.Need-returns-2
-unfolding toldVerdict
+unfolding toldVerdict segmentQuestions
 returns-2 c =
-    let b = c .before .before in
-    segment-few-elected _ _ _ (sym (b .before .well-formed .ensures) ∙ not-false _ (b .if1 .left)) (c .if2 .taken)
-
-mul-if3 : tie.Need-mul-if3
-mul-if3 c =
-    let b = c .before .before in
-    let few = count-few _ (sym (b .before .well-formed .ensures) ∙ not-false _ (b .if1 .left)) in
-    record { fits = omega (arith, few) }
-
-returns-3 : tie.Need-returns-3
-unfolding toldVerdict
-returns-3 c =
-    let d = c .before in
-    let b = d .before .before in
-    segment-few-moved _ _ _ (sym (b .before .well-formed .ensures) ∙ not-false _ (b .if1 .left)) (d .if2 .left) (c .if3 .taken)
-
-returns-4 : tie.Need-returns-4
-unfolding toldVerdict
-returns-4 c =
-    let d = c .before in
-    let b = d .before .before in
-    segment-asked _ _ _ (sym (b .before .well-formed .ensures) ∙ not-false _ (b .if1 .left)) (d .if2 .left) (c .if3 .left)
+    let a = c .before in
+    let f = a .before .before in
+    let formed = sym (f .before .well-formed .ensures) ∙ not-false _ (f .if1 .left) in
+    rw (← count-word _ formed)
+    (asked-next 14 (c .ask2 .ensures) (asked-next 14 (a .ask .ensures) refl refl) refl ∙ asked-both _ 14 _ _ ∙ asked-first 1 _ _ formed)
 
 pub ask-segment-spec : {M : Type 1} → statement M
 ask-segment-spec =
     tie.close
     (tie.spec
-    well-formed-requires
+    (λ c κs. search needs)
     returns
     shared-slice-read-count
-    returns-2
-    mul-if3
-    returns-3
-    returns-4)
+    (λ c κs. search needs)
+    mul-ask
+    (λ c κs. search needs)
+    returns-2)

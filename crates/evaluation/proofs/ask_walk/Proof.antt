@@ -1,65 +1,45 @@
--- `evaluation::ask_walk` meets its contract: each return is the first question that is answered no.
-use mathlib.Core.Path.{sym, _∙_}
+-- `evaluation::ask_walk` meets its contract: question by question, after that of the form.
+use mathlib.Core.Path.{refl, sym, _∙_}
 use native.Mathlib.Omega.{arith}
+use borrow.Author.Needs.{needs}
 use borrow.Author.Tests.{not-true, not-false}
 use lib.ListN.{length-map}
+use Rattle.error.proofs.Questions.{asked-next, asked-both, asked-first, first-no}
 use Rattle.error.specs.Verdict.{toldVerdict}
+use Rattle.book.specs.Calls.{walkQuestions}
 use Rattle.store_words.proofs.ChainsOf.{wellFormed-room}
-use Rattle.evaluation.proofs.Asking.{walk-unformed, walk-few-elected, walk-no-prices, walk-many-prices, walk-asked}
-use borrow.Author.Needs.{needs}
-use borrow.Author.Needs.{needs}
+use Rattle.evaluation.proofs.Asking.{count-word}
 use Rattle.evaluation.proofs.ask_walk.Statement.{statement}
 use Rattle.evaluation.proofs.ask_walk.Tie as tie
 
-well-formed-requires : tie.Need-well-formed-requires
-well-formed-requires c κs = search needs
-
 returns : tie.Need-returns
-unfolding toldVerdict
-returns c = walk-unformed _ _ _ (sym (c .before .well-formed .ensures) ∙ not-true _ (c .if1 .taken))
+unfolding toldVerdict walkQuestions
+returns c = sym (first-no _ _ _ (sym (c .before .well-formed .ensures) ∙ not-true _ (c .if1 .taken)))
 
 shared-slice-read-count : tie.Need-shared-slice-read-count
 shared-slice-read-count c =
-    let b = c .before in
-    omega (arith, wellFormed-room _ (sym (b .before .well-formed .ensures) ∙ not-false _ (b .if1 .left)) .room)
+    let f = c .before in
+    omega (arith, wellFormed-room _ (sym (f .before .well-formed .ensures) ∙ not-false _ (f .if1 .left)) .room)
 
 returns-2 : tie.Need-returns-2
-unfolding toldVerdict
+unfolding toldVerdict walkQuestions
 returns-2 c =
-    let b = c .before .before in
-    walk-few-elected _ _ _ (sym (b .before .well-formed .ensures) ∙ not-false _ (b .if1 .left)) (c .if2 .taken)
-
-returns-3 : tie.Need-returns-3
-unfolding toldVerdict
-returns-3 c =
-    let d = c .before in
-    let b = d .before .before in
-    walk-no-prices _ _ _ (sym (b .before .well-formed .ensures) ∙ not-false _ (b .if1 .left)) (d .if2 .left) (rw length-map (c .if3 .taken))
-
-returns-4 : tie.Need-returns-4
-unfolding toldVerdict
-returns-4 c =
-    let p = c .before in
-    let d = p .before in
-    let b = d .before .before in
-    walk-many-prices _ _ _ (sym (b .before .well-formed .ensures) ∙ not-false _ (b .if1 .left)) (d .if2 .left) (rw length-map (p .if3 .left)) (rw length-map (c .if4 .taken))
-
-returns-5 : tie.Need-returns-5
-unfolding toldVerdict
-returns-5 c =
-    let p = c .before in
-    let d = p .before in
-    let b = d .before .before in
-    walk-asked _ _ _ (sym (b .before .well-formed .ensures) ∙ not-false _ (b .if1 .left)) (d .if2 .left) (rw length-map (p .if3 .left)) (rw length-map (c .if4 .left))
+    let a2 = c .before in
+    let a = a2 .before in
+    let f = a .before .before in
+    let formed = sym (f .before .well-formed .ensures) ∙ not-false _ (f .if1 .left) in
+    let q14 = asked-next 14 (a .ask .ensures) refl refl in
+    rw (← count-word _ formed, length-map)
+    (asked-next 16 (c .ask3 .ensures) (asked-next 16 (a2 .ask2 .ensures) q14 refl) refl ∙ asked-both _ 16 _ _ ∙ asked-first 1 _ _ formed)
 
 pub ask-walk-spec : {M : Type 1} → statement M
 ask-walk-spec =
     tie.close
     (tie.spec
-    well-formed-requires
+    (λ c κs. search needs)
     returns
     shared-slice-read-count
-    returns-2
-    returns-3
-    returns-4
-    returns-5)
+    (λ c κs. search needs)
+    (λ c κs. search needs)
+    (λ c κs. search needs)
+    returns-2)

@@ -1,9 +1,8 @@
 -- `evaluation::evaluate_pending_stops` meets its contract: refused by a question, or its pass.
-use mathlib.Core.Path.{sym, ap, _∙_}
+use mathlib.Core.Path.{sym}
 use Rattle.error.proofs.Verdicts.{all-yes, one-no}
-use Rattle.evaluation.specs.Answers.{toldPass}
+use Rattle.book.specs.Answers.{toldPass}
 use Rattle.evaluation.proofs.Passes.{pass-refused, pass-accepted-as}
-use borrow.Author.Needs.{needs}
 use borrow.Author.Needs.{needs}
 use Rattle.evaluation.proofs.evaluate_pending_stops.Statement.{statement}
 use Rattle.evaluation.proofs.evaluate_pending_stops.Tie as tie

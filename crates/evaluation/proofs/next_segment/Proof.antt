@@ -2,7 +2,6 @@
 use Rattle.print_path.specs.Segments.{toldNext}
 use Rattle.evaluation.proofs.Passes.{taken-segment}
 use borrow.Author.Needs.{needs}
-use borrow.Author.Needs.{needs}
 use Rattle.evaluation.proofs.next_segment.Statement.{statement}
 use Rattle.evaluation.proofs.next_segment.Tie as tie
 

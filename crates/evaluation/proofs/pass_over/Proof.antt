@@ -5,7 +5,6 @@ use Rattle.pending_stops.proofs.Finding.{beyond, wellFormed-stored}
 use Rattle.store_words.proofs.ChainsOf.{wellFormed-room}
 use Rattle.evaluation.proofs.Passes.{pass-formed, pass-elected, pass-script, passed-done}
 use borrow.Author.Needs.{needs}
-use borrow.Author.Needs.{needs}
 use Rattle.evaluation.proofs.pass_over.Statement.{statement}
 use Rattle.evaluation.proofs.pass_over.Tie as tie
 

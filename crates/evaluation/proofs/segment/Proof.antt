@@ -5,9 +5,9 @@ use Rattle.book.specs.Evaluation.{segment}
 use Rattle.book.specs.Words.{bookOf}
 use Rattle.pending_stops.proofs.Finding.{beyond, wellFormed-stored}
 use Rattle.store_words.proofs.ChainsOf.{wellFormed-room}
-use Rattle.evaluation.specs.Answers.{toldCounts}
-use Rattle.evaluation.proofs.Outcomes.{from-start, fills-within, segment-refused, segment-formed, segment-elected, segment-moved, segment-fills, segment-done}
-use borrow.Author.Needs.{needs}
+use Rattle.book.specs.Answers.{toldCounts}
+use Rattle.evaluation.proofs.Asking.{segment-formed, segment-room}
+use Rattle.evaluation.proofs.Outcomes.{from-start, segment-refused, segment-within, segment-done}
 use borrow.Author.Needs.{needs}
 use Rattle.evaluation.proofs.segment.Statement.{statement}
 use Rattle.evaluation.proofs.segment.Tie as tie
@@ -26,7 +26,7 @@ slice-read-n c =
     let a = c .before .before .before in
     let g = a .before .before .before .args in
     let h = all-yes _ _ (c .before .enum-told .given .1) (a .ask-segment .ensures) in
-    omega (arith, wellFormed-room _ (segment-formed (g .settings) (g .prints) (g .s .now) (g .elected .now) (g .moved .now) h) .room)
+    omega (arith, wellFormed-room _ (segment-formed (g .s .now) _ _ h) .room)
 
 segment-listed-requires : tie.Need-segment-listed-requires
 segment-listed-requires c κs =
@@ -37,9 +37,9 @@ segment-listed-requires c κs =
     let h = all-yes _ _ (e .enum-told .given .1) (a .ask-segment .ensures) in (
       bookOf w,
       beyond w,
-      wellFormed-stored w (segment-formed (g .settings) (g .prints) w (g .elected .now) (g .moved .now) h),
-      segment-elected (g .settings) (g .prints) w (g .elected .now) (g .moved .now) h,
-      segment-moved (g .settings) (g .prints) w (g .elected .now) (g .moved .now) h,
+      wellFormed-stored w (segment-formed w _ _ h),
+      segment-room w _ _ h .0,
+      segment-room w _ _ h .1,
     )
 
 complete-requires : tie.Need-complete-requires
@@ -50,9 +50,9 @@ complete-requires c κs =
     let g = a .before .before .before .args in
     let w = g .s .now in
     let h = all-yes _ _ (e .enum-told .given .1) (a .ask-segment .ensures) in
-    let d = o .segment-listed .ensures (bookOf w) (beyond w) (wellFormed-stored w (segment-formed (g .settings) (g .prints) w (g .elected .now) (g .moved .now) h)) in (
+    let d = o .segment-listed .ensures (bookOf w) (beyond w) (wellFormed-stored w (segment-formed w _ _ h)) in (
       (segment (g .settings .kill) (g .prints) (bookOf w) .book, beyond w, d .4),
-      fills-within _ (segment (g .settings .kill) (g .prints) (bookOf w) .fills) (g .elected .now) _ (segment-fills (g .settings) (g .prints) w (g .elected .now) (g .moved .now) h) (d .1) (d .2),
+      segment-within (g .settings) (g .prints) w (g .elected .now) (g .moved .now) h _ (d .2) _ (d .1),
     )
 
 same-length : tie.Need-same-length
@@ -82,8 +82,8 @@ returns-2 c =
     let g = a .before .before .before .args in
     let w = g .s .now in
     let h = all-yes _ _ (e .enum-told .given .1) (a .ask-segment .ensures) in
-    let d = o .segment-listed .ensures (bookOf w) (beyond w) (wellFormed-stored w (segment-formed (g .settings) (g .prints) w (g .elected .now) (g .moved .now) h)) in
-    segment-done (g .settings) (g .prints) w (g .elected .now) (g .moved .now) h _ _ _ _ _ (d .0) (d .1) (d .2) (d .3) (d .4)
+    let d = o .segment-listed .ensures (bookOf w) (beyond w) (wellFormed-stored w (segment-formed w _ _ h)) in
+    segment-done (g .settings) (g .prints) w (g .elected .now) (g .moved .now) h _ (d .2) _ _ _ _ (d .0) (d .1) (d .3) (d .4)
     (c .before .complete .ensures (segment (g .settings .kill) (g .prints) (bookOf w) .book) (beyond w) (g .elected .now) (segment (g .settings .kill) (g .prints) (bookOf w) .fills) (d .4) (d .2) (from-start _ _ (d .1)))
 
 pub segment-spec : {M : Type 1} → statement M

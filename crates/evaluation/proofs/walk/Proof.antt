@@ -6,11 +6,11 @@ use Rattle.error.proofs.Verdicts.{all-yes, one-no}
 use Rattle.book.specs.Evaluation.{walk}
 use Rattle.book.specs.Words.{bookOf}
 use Rattle.pending_stops.proofs.Finding.{beyond, wellFormed-stored}
-use Rattle.points.specs.Steps.{toPrice}
+use Rattle.pricelevel.specs.Price.{toPrice}
 use Rattle.store_words.proofs.ChainsOf.{wellFormed-room}
-use Rattle.evaluation.specs.Answers.{toldCounts}
-use Rattle.evaluation.proofs.Outcomes.{from-start, fills-within, walk-refused, walk-formed, walk-elected, walk-prices, walk-fills, walk-done}
-use borrow.Author.Needs.{needs}
+use Rattle.book.specs.Answers.{toldCounts}
+use Rattle.evaluation.proofs.Asking.{walk-formed, walk-room, walk-prices}
+use Rattle.evaluation.proofs.Outcomes.{from-start, walk-refused, walk-within, walk-done}
 use borrow.Author.Needs.{needs}
 use Rattle.evaluation.proofs.walk.Statement.{statement}
 use Rattle.evaluation.proofs.walk.Tie as tie
@@ -29,7 +29,7 @@ slice-read-n c =
     let a = c .before .before .before in
     let g = a .before .before .before .before .args in
     let h = all-yes _ _ (c .before .enum-told .given .1) (a .ask-walk .ensures) in
-    omega (arith, wellFormed-room _ (walk-formed (g .settings) (g .prev) (map toPrice (g .prices .now)) (g .s .now) (g .elected .now) h) .room)
+    omega (arith, wellFormed-room _ (walk-formed (map toPrice (g .prices .now)) (g .s .now) _ h) .room)
 
 walk-points-requires : tie.Need-walk-points-requires
 walk-points-requires c κs =
@@ -39,12 +39,12 @@ walk-points-requires c κs =
     let w = g .s .now in
     let ps = map toPrice (g .prices .now) in
     let h = all-yes _ _ (e .enum-told .given .1) (a .ask-walk .ensures) in
-    let few = walk-prices (g .settings) (g .prev) ps w (g .elected .now) h in (
+    let few = walk-prices ps w _ h in (
       (
         bookOf w,
         beyond w,
-        wellFormed-stored w (walk-formed (g .settings) (g .prev) ps w (g .elected .now) h),
-        walk-elected (g .settings) (g .prev) ps w (g .elected .now) h,
+        wellFormed-stored w (walk-formed ps w _ h),
+        walk-room ps w _ h,
       ),
       (rw length-map at (few .0), rw length-map at (few .1)),
     )
@@ -58,9 +58,9 @@ complete-requires c κs =
     let w = g .s .now in
     let ps = map toPrice (g .prices .now) in
     let h = all-yes _ _ (e .enum-told .given .1) (a .ask-walk .ensures) in
-    let d = o .walk-points .ensures (bookOf w) (beyond w) (wellFormed-stored w (walk-formed (g .settings) (g .prev) ps w (g .elected .now) h)) in (
+    let d = o .walk-points .ensures (bookOf w) (beyond w) (wellFormed-stored w (walk-formed ps w _ h)) in (
       (walk (g .settings .kill) (g .prev) ps (bookOf w) .book, beyond w, d .3),
-      fills-within _ (walk (g .settings .kill) (g .prev) ps (bookOf w) .fills) (g .elected .now) _ (walk-fills (g .settings) (g .prev) ps w (g .elected .now) h) (d .1) (d .2),
+      walk-within (g .settings) (g .prev) ps w (g .elected .now) h _ (d .2) _ (d .1),
     )
 
 same-length : tie.Need-same-length
@@ -88,8 +88,8 @@ returns-2 c =
     let w = g .s .now in
     let ps = map toPrice (g .prices .now) in
     let h = all-yes _ _ (e .enum-told .given .1) (a .ask-walk .ensures) in
-    let d = o .walk-points .ensures (bookOf w) (beyond w) (wellFormed-stored w (walk-formed (g .settings) (g .prev) ps w (g .elected .now) h)) in
-    walk-done (g .settings) (g .prev) ps w (g .elected .now) h _ _ _ _ (d .0) (d .1) (d .2) (d .3)
+    let d = o .walk-points .ensures (bookOf w) (beyond w) (wellFormed-stored w (walk-formed ps w _ h)) in
+    walk-done (g .settings) (g .prev) ps w (g .elected .now) h _ (d .2) _ _ _ (d .0) (d .1) (d .3)
     (c .before .complete .ensures (walk (g .settings .kill) (g .prev) ps (bookOf w) .book) (beyond w) (g .elected .now) (walk (g .settings .kill) (g .prev) ps (bookOf w) .fills) (d .3) (d .2) (from-start _ _ (d .1)))
 
 pub walk-spec : {M : Type 1} → statement M

@@ -3,9 +3,9 @@ use native.Mathlib.Omega.{arith}
 use mathlib.Core.Path.{sym, _∙_}
 use borrow.Author.Tests.{not-true, not-false, le-leb, lt-leb}
 use borrow.Author.Needs.{needs}
-use Rattle.form.specs.Check.{formed}
-use Rattle.form.proofs.Exact.{exact}
-use Rattle.form.proofs.Tests.{and-fails, and-passes}
+use Rattle.form_check.specs.Check.{formed}
+use Rattle.form_check.proofs.Exact.{exact}
+use Rattle.book.proofs.Tests.{and-fails, and-passes}
 use Rattle.form.proofs.well_formed.Statement.{statement}
 use Rattle.form.proofs.well_formed.Tie as tie
 

@@ -1,10 +1,10 @@
 -- `listing::list_elected` meets its contract: the loop walks along the stop chain.
 use native.Mathlib.Omega.{arith}
 use borrow.Author.Tests.{not-true, not-false}
-use Rattle.book.proofs.Steps.{electedIn}
+use Rattle.book.specs.Steps.{electedIn}
 use Rattle.book.specs.Evaluation.{fillAt}
 use Rattle.book.specs.declared.Chain.the-variants.{ByStop}
-use Rattle.chains.specs.Links.{linkOf}
+use Rattle.book.specs.Chains.{linkOf}
 use Rattle.listing.proofs.Along.{At, at-length, at-end, at-record, at-left, at-stop, at-room, at-next}
 use Rattle.listing.proofs.Leading.{electedStop, elected-told}
 use Rattle.listing.proofs.Noting.{fill-room, fill-written}

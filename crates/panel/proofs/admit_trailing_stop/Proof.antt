@@ -15,8 +15,8 @@ use Rattle.stop_orders.proofs.Walking.{agg, whole, sub, look-in, FmC, owns, Ref
 use Rattle.stop_orders.proofs.Walking.{finally, slice-vals, mut-slice-tells, u64, plain, nothing, onEntry, tripleOf, Contract, Triple, calls-at}
 use Rattle.stop_orders.proofs.Walking.{lasts, entered, cited, Stays, gave-slice, walkOf, AllGo, goes-gave-slice, Walks, ends-at, walked}
 use types.Kit.{use3}
-use Rattle.admission.specs.Answers.{toldAdmission}
-use Rattle.admission.specs.declared.Admission.{Admission}
+use Rattle.book.specs.Answers.{toldAdmission}
+use Rattle.book.specs.declared.Admission.{Admission}
 use Rattle.book.specs.declared.LastPrice.{LastPrice}
 use Rattle.book.specs.declared.PrintPath.{PrintPath}
 use Rattle.book.specs.Store.{admit}

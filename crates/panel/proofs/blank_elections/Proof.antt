@@ -2,7 +2,7 @@
 use mathlib.Core.Path.{ap}
 use borrow.Author.Needs.{needs}
 use lib.ListN.{replicate}
-use Rattle.book.specs.Words.{mostRecords}
+use Rattle.book.specs.Sizes.{mostRecords}
 use Rattle.panel.specs.Blanks.{blankElections}
 use Rattle.panel.proofs.blank_elections.Statement.{statement}
 use Rattle.panel.proofs.blank_elections.Tie as tie

@@ -3,7 +3,7 @@ use mathlib.Core.Path.{ap}
 use borrow.Author.Needs.{needs}
 use Prim.Native.Nat.{_*_}
 use lib.ListN.{replicate}
-use Rattle.book.specs.Words.{mostRecords}
+use Rattle.book.specs.Sizes.{mostRecords}
 use Rattle.panel.specs.Blanks.{blankMoves}
 use Rattle.panel.proofs.blank_moves.Statement.{statement}
 use Rattle.panel.proofs.blank_moves.Tie as tie

@@ -13,10 +13,10 @@ use Rattle.stop_orders.proofs.Walking.{agg, whole, sub, look-in, FmC, owns, Ref
 use Rattle.stop_orders.proofs.Walking.{finally, slice-vals, mut-slice-tells, u64, plain, nothing, onEntry, tripleOf, Contract, Triple, calls-at}
 use Rattle.stop_orders.proofs.Walking.{lasts, entered, cited, Stays, gave-slice, walkOf, AllGo, goes-gave-slice, Walks, ends-at, walked}
 use types.Kit.{use3}
-use Rattle.admission.specs.declared.Cleared.{Cleared}
+use Rattle.book.specs.declared.Cleared.{Cleared}
 use Rattle.book.specs.declared.PrintPath.{PrintPath}
 use Rattle.book.specs.Store.{clear}
-use Rattle.store_words.specs.Empty.{toldLayout}
+use Rattle.book.specs.Answers.{toldLayout}
 use Rattle.stop_orders.proofs.Claims.{All, claimed}
 use Rattle.stop_orders.proofs.Plain.{Stands, spells, tellss, valsOf, drops, drops-go, value, stands}
 use Rattle.stop_orders.proofs.Types.{PathOf, LayoutOf, ClearedOf}

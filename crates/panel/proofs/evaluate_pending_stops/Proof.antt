@@ -1,11 +1,12 @@
 -- `evaluate_pending_stops` meets its contract: what `pass_into` is lent is what there is room for.
+use Prim.Native.Nat.{ℕ}
 use mathlib.Core.Path.{_≡_}
-use mathlib.Core.List.{List, _++_}
+use lib.ListN.{length}
+use mathlib.Core.List.{_++_}
 use borrow.Author.Needs.{needs}
-use Rattle.book.specs.Calls.{passCall, PassOutcome}
-use Rattle.book.specs.Words.{mostRecords}
-use Rattle.book.specs.declared.Elected.{Elected}
-use Rattle.evaluation.specs.Answers.{toldPass}
+use Rattle.book.specs.Calls.{written, passCall, PassOutcome}
+use Rattle.book.specs.Sizes.{mostRecords}
+use Rattle.book.specs.Answers.{toldPass}
 use Rattle.panel.specs.Blanks.{blankElections}
 use Rattle.panel.proofs.Rooms.{within-room, elections-length}
 use Rattle.panel.proofs.evaluate_pending_stops.Statement.{statement}
@@ -29,9 +30,9 @@ returns c =
     let l = w .before .before in
     let b = l .before in
     let a = b .before .before .before .args in
-    let o : List Elected → PassOutcome = passCall (a .settings) (a .script .now) (a .prints) (a .s .now) in
-    within-room (λ fs rest. (toldPass (w .pass-into .result .answer) ≡ o fs .answer) × ((w .pass-into .result .elected ≡ o fs .elected ++ rest)
-    × (w .pass-into .last .0 ≡ o fs .words)))
+    let o : ℕ → PassOutcome = passCall (a .settings) (a .script .now) (a .prints) (a .s .now) in
+    within-room (λ fs rest. (toldPass (w .pass-into .result .answer) ≡ o (length fs) .answer) × ((w .pass-into .result .elected ≡ written (o (length fs) .elected) fs ++ rest)
+    × (w .pass-into .last .0 ≡ o (length fs) .words)))
     blankElections _ mostRecords _ (a .room) (b .blank-elections .ensures) elections-length (l .least .ensures) (w .pass-into .ensures)
 
 pub evaluate-pending-stops-spec : {M : Type 1} → statement M

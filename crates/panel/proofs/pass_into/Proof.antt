@@ -25,13 +25,13 @@ use denote.Memory.{pointee}
 use denote.Slice.{sliceTy}
 use Rattle.stop_orders.proofs.Frame.{Cell, room as empty, full, locals, frees-all}
 use base.Fml.{Fml}
-use Rattle.book.specs.Calls.{passCall, PassOutcome}
-use Rattle.book.specs.Words.{mostRecords}
+use Rattle.book.specs.Calls.{written, passCall, PassOutcome}
+use Rattle.book.specs.Sizes.{mostRecords}
 use Rattle.book.specs.declared.Elected.{Elected}
 use Rattle.book.specs.declared.PrintSegment.{PrintSegment}
 use Rattle.book.specs.declared.Settings.{Settings}
-use Rattle.evaluation.specs.Answers.{toldPass}
-use Rattle.evaluation.specs.declared.PassAnswer.{PassAnswer}
+use Rattle.book.specs.Answers.{toldPass}
+use Rattle.book.specs.declared.PassAnswer.{PassAnswer}
 use Rattle.panel.specs.declared.PassListing.{PassListing}
 use Rattle.stop_orders.proofs.Claims.{All, claimed}
 use Rattle.stop_orders.proofs.Plain.{Stands, word, rows, spells, tellss, drops, drops-go, value, stands}
@@ -93,7 +93,7 @@ module _ {M : Type 1} (𝓤 : URA M) (H : Heap 𝓤) (A : Atoms 𝓤) (W : Given
 
   -- what the call is to do
   abbrev outcome : PassOutcome
-  outcome = passCall settings (xp .now) prints (xs .now) (take n list)
+  outcome = passCall settings (xp .now) prints (xs .now) (length (take n list))
 
   -- ---- the call
   module _ (l ν : ℕ) (γ : GName) where
@@ -130,7 +130,7 @@ module _ {M : Type 1} (𝓤 : URA M) (H : Heap 𝓤) (A : Atoms 𝓤) (W : Given
   answer r zs = record { answer = r; elected = listed zs }
 
   abbrev Did : PassListing → List ℕ → List (Type 0)
-  Did r zs = (toldPass (r .answer) ≡ outcome .answer) ∷ (r .elected ≡ listed (outcome .elected)) ∷ (zs ≡ outcome .words) ∷ []
+  Did r zs = (toldPass (r .answer) ≡ outcome .answer) ∷ (r .elected ≡ listed (written (outcome .elected) (take n list))) ∷ (zs ≡ outcome .words) ∷ []
 
   -- ---- the end
   exits : (r : PassListing) → Stands PassListingOf r → (zs : List ℕ) → length zs ≡ length (xs .now) → All (Did r zs)
@@ -196,7 +196,7 @@ module _ {M : Type 1} (𝓤 : URA M) (H : Heap 𝓤) (A : Atoms 𝓤) (W : Given
           (and-then ! (load ! (from ! (stop !)) (look ! 23 refl)) (and-then ! (load ! (from ! (stop !)) (look ! 21 refl))
           (and-then ! (load ! (from ! (stop !)) (look ! 19 refl)) (and-then ! (load ! (from ! (stop !)) (look ! 4 refl)) (no-more !)))))) (λ w.
           answers PassedOf ! tt (alive l₇ ν γ) (lasts callee.ended (κ₁, (κ₂, (ν ∷ [], tt))) (to l₇ ν γ .0 .3)) (λ r zs. (toldPass r ≡ outcome .answer)
-          ∷ (zs .0 ≡ outcome .words) ∷ (zs .1 .1 .1 .1 .0 ≡ outcome .elected) ∷ []) w (id⊢ 𝓤 _) (λ r zs is e.
+          ∷ (zs .0 ≡ outcome .words) ∷ (zs .1 .1 .1 .1 .0 ≡ written (outcome .elected) (take n list)) ∷ []) w (id⊢ 𝓤 _) (λ r zs is e.
           fsplit ! $ fsplit ! $ move ! (1 ∷ []) $ feqL ! (λ m₁. move ! (1 ∷ []) $ fsplit ! $ drop ! $ fsplit ! $ drop ! $ fsplit ! $ drop ! $
           fsplit ! $ fsplit ! $ move ! (1 ∷ []) $ feqL ! (λ m₂.
           -- [the list's last entries; true; the store's last list; the tokens; what the lender keeps; _13 (5); …]

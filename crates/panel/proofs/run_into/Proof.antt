@@ -25,14 +25,14 @@ use denote.Memory.{pointee}
 use denote.Slice.{sliceTy}
 use Rattle.stop_orders.proofs.Frame.{Cell, room as empty, full, away, locals, frees-all}
 use base.Fml.{Fml}
-use Rattle.book.specs.Calls.{runCall, RunOutcome}
-use Rattle.book.specs.Words.{mostRecords}
+use Rattle.book.specs.Calls.{written, runCall, RunOutcome}
+use Rattle.book.specs.Sizes.{mostRecords}
 use Rattle.book.specs.declared.Elected.{Elected}
 use Rattle.book.specs.declared.LastPrice.{LastPrice}
 use Rattle.book.specs.declared.PrintPath.{PrintPath}
 use Rattle.book.specs.declared.Settings.{Settings}
-use Rattle.evaluation.specs.Answers.{toldPass}
-use Rattle.evaluation.specs.declared.PassAnswer.{PassAnswer}
+use Rattle.book.specs.Answers.{toldPass}
+use Rattle.book.specs.declared.PassAnswer.{PassAnswer}
 use Rattle.panel.specs.declared.RunListing.{RunListing}
 use Rattle.stop_orders.proofs.Claims.{All, claimed}
 use Rattle.stop_orders.proofs.Plain.{Plain, Stands, Held, word, rows, spells, tellss, valsOf, drops, drops-go, value, stands}
@@ -100,7 +100,7 @@ module _ {M : Type 1} (𝓤 : URA M) (H : Heap 𝓤) (A : Atoms 𝓤) (W : Given
 
   -- what the call is to do
   abbrev outcome : RunOutcome
-  outcome = runCall settings (xp .now) trade (xs .now) (take n list) h
+  outcome = runCall settings (xp .now) trade (xs .now) (length (take n list)) h
 
   -- ---- the call
   module _ (l l′ ν μ : ℕ) (γ δ : GName) where
@@ -143,7 +143,7 @@ module _ {M : Type 1} (𝓤 : URA M) (H : Heap 𝓤) (A : Atoms 𝓤) (W : Given
   answer r p es = record { answer = r; path = p; elected = listed es }
 
   abbrev Did : RunListing → List ℕ → List (Type 0)
-  Did r zs = (toldPass (r .answer) ≡ outcome .answer) ∷ (r .path ≡ outcome .path) ∷ (r .elected ≡ listed (outcome .elected))
+  Did r zs = (toldPass (r .answer) ≡ outcome .answer) ∷ (r .path ≡ outcome .path) ∷ (r .elected ≡ listed (written (outcome .elected) (take n list)))
       ∷ (zs ≡ outcome .words) ∷ []
 
   -- ---- the end
@@ -249,7 +249,7 @@ module _ {M : Type 1} (𝓤 : URA M) (H : Heap 𝓤) (A : Atoms 𝓤) (W : Given
           (and-then ! (load ! (from ! (stop !)) (look ! 7 refl)) (no-more !))))))) (λ w.
           answers PassedOf ! tt (alive l₈ l₉ ν μ γ δ) (lasts callee.ended (κ₁, (ν ∷ [], (κ₂, (μ ∷ [], tt)))) (to l₈ l₉ ν μ γ δ .0 .3))
           (λ r zs. (toldPass r ≡ outcome .answer) ∷ (zs .1 .0 ≡ outcome .path) ∷ (zs .0 ≡ outcome .words)
-          ∷ (zs .1 .1 .1 .1 .1 .0 ≡ outcome .elected) ∷ []) w (id⊢ 𝓤 _) (λ r zs is e.
+          ∷ (zs .1 .1 .1 .1 .1 .0 ≡ written (outcome .elected) (take n list)) ∷ []) w (id⊢ 𝓤 _) (λ r zs is e.
           fsplit ! $ fsplit ! $ move ! (1 ∷ []) $ feqL ! (λ m₁. move ! (1 ∷ []) $ fsplit ! $ move ! (1 ∷ []) $ fsplit ! $ drop ! $ fsplit ! $ drop ! $
           fsplit ! $ drop ! $ fsplit ! $ fsplit ! $ move ! (1 ∷ []) $ feqL ! (λ m₂.
           -- [the last of the list; true; of the path; of the store; the tokens; what the lender keeps of the list, of the path; _17 (7); …]

@@ -1,11 +1,12 @@
 -- `run_stop_triggers` meets its contract: what `run_into` is lent is what there is room for.
+use Prim.Native.Nat.{ℕ}
 use mathlib.Core.Path.{_≡_}
-use mathlib.Core.List.{List, _++_}
+use lib.ListN.{length}
+use mathlib.Core.List.{_++_}
 use borrow.Author.Needs.{needs}
-use Rattle.book.specs.Calls.{runCall, RunOutcome}
-use Rattle.book.specs.Words.{mostRecords}
-use Rattle.book.specs.declared.Elected.{Elected}
-use Rattle.evaluation.specs.Answers.{toldPass}
+use Rattle.book.specs.Calls.{written, runCall, RunOutcome}
+use Rattle.book.specs.Sizes.{mostRecords}
+use Rattle.book.specs.Answers.{toldPass}
 use Rattle.panel.specs.Blanks.{blankElections}
 use Rattle.panel.proofs.Rooms.{within-room, elections-length}
 use Rattle.panel.proofs.run_stop_triggers.Statement.{statement}
@@ -29,9 +30,9 @@ returns c =
     let l = w .before .before in
     let b = l .before in
     let a = b .before .before .before .args in
-    let o : List Elected → RunOutcome = λ fs. runCall (a .settings) (a .script .now) (a .trade) (a .s .now) fs (a .path) in
-    within-room (λ fs rest. (toldPass (w .run-into .result .answer) ≡ o fs .answer) × ((w .run-into .result .path ≡ o fs .path)
-    × ((w .run-into .result .elected ≡ o fs .elected ++ rest) × (w .run-into .last .0 ≡ o fs .words))))
+    let o : ℕ → RunOutcome = λ k. runCall (a .settings) (a .script .now) (a .trade) (a .s .now) k (a .path) in
+    within-room (λ fs rest. (toldPass (w .run-into .result .answer) ≡ o (length fs) .answer) × ((w .run-into .result .path ≡ o (length fs) .path)
+    × ((w .run-into .result .elected ≡ written (o (length fs) .elected) fs ++ rest) × (w .run-into .last .0 ≡ o (length fs) .words))))
     blankElections _ mostRecords _ (a .room) (b .blank-elections .ensures) elections-length (l .least .ensures) (w .run-into .ensures)
 
 pub run-stop-triggers-spec : {M : Type 1} → statement M

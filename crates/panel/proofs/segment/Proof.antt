@@ -1,13 +1,12 @@
 -- `segment` meets its contract: what `segment_into` is lent is what there is room for.
 use mathlib.Core.Path.{_≡_}
-use Prim.Native.Nat.{_*_}
-use mathlib.Core.List.{List, _++_}
+use Prim.Native.Nat.{ℕ, _*_}
+use lib.ListN.{length}
+use mathlib.Core.List.{_++_}
 use borrow.Author.Needs.{needs}
-use Rattle.book.specs.Calls.{segmentCall, SegmentOutcome}
-use Rattle.book.specs.Words.{mostRecords}
-use Rattle.book.specs.declared.Elected.{Elected}
-use Rattle.book.specs.declared.Moved.{Moved}
-use Rattle.evaluation.specs.Answers.{toldCounts}
+use Rattle.book.specs.Calls.{written, segmentCall, SegmentOutcome}
+use Rattle.book.specs.Sizes.{mostRecords}
+use Rattle.book.specs.Answers.{toldCounts}
 use Rattle.panel.specs.Blanks.{blankElections, blankMoves}
 use Rattle.panel.proofs.Rooms.{within-rooms, elections-length, moves-length}
 use Rattle.panel.proofs.segment.Statement.{statement}
@@ -39,10 +38,10 @@ returns c =
     let m = j .before in
     let b = m .before in
     let a = b .before .before .args in
-    let o : List Elected → List Moved → SegmentOutcome = segmentCall (a .settings) (a .prints) (a .s .now) in
-    within-rooms (λ es others ms rest. (toldCounts (w .segment-into .result .answer) ≡ o es ms .answer)
-    × ((w .segment-into .result .elected ≡ o es ms .elected ++ others) × ((w .segment-into .result .moved ≡ o es ms .moved ++ rest)
-    × (w .segment-into .last .0 ≡ o es ms .words))))
+    let o : ℕ → ℕ → SegmentOutcome = segmentCall (a .settings) (a .prints) (a .s .now) in
+    within-rooms (λ es others ms rest. (toldCounts (w .segment-into .result .answer) ≡ o (length es) (length ms) .answer)
+    × ((w .segment-into .result .elected ≡ written (o (length es) (length ms) .elected) es ++ others) × ((w .segment-into .result .moved ≡ written (o (length es) (length ms) .moved) ms ++ rest)
+    × (w .segment-into .last .0 ≡ o (length es) (length ms) .words))))
     blankElections _ mostRecords _ (a .room) blankMoves _ (2 * mostRecords) _ (a .moved-room) (b .blank-elections .ensures) elections-length
     (j .least .ensures) (m .blank-moves .ensures) moves-length (k .least2 .ensures) (w .segment-into .ensures)
 

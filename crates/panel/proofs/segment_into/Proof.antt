@@ -22,14 +22,14 @@ use denote.Memory.{pointee}
 use denote.Slice.{sliceTy}
 use Rattle.stop_orders.proofs.Frame.{Cell, room as empty, full, away, locals, frees-all}
 use base.Fml.{Fml}
-use Rattle.book.specs.Calls.{segmentCall, SegmentOutcome}
-use Rattle.book.specs.Words.{mostRecords}
+use Rattle.book.specs.Calls.{written, segmentCall, SegmentOutcome}
+use Rattle.book.specs.Sizes.{mostRecords}
 use Rattle.book.specs.declared.Elected.{Elected}
 use Rattle.book.specs.declared.Moved.{Moved}
 use Rattle.book.specs.declared.PrintSegment.{PrintSegment}
 use Rattle.book.specs.declared.Settings.{Settings}
-use Rattle.evaluation.specs.Answers.{toldCounts}
-use Rattle.evaluation.specs.declared.EvaluationAnswer.{EvaluationAnswer}
+use Rattle.book.specs.Answers.{toldCounts}
+use Rattle.book.specs.declared.EvaluationAnswer.{EvaluationAnswer}
 use Rattle.panel.specs.declared.SegmentListing.{SegmentListing}
 use Rattle.stop_orders.proofs.Claims.{All, claimed}
 use Rattle.stop_orders.proofs.Plain.{Plain, Stands, Held, word, rows, spells, tellss, valsOf, drops, drops-go, value, stands}
@@ -90,7 +90,7 @@ module _ {M : Type 1} (𝓤 : URA M) (H : Heap 𝓤) (A : Atoms 𝓤) (W : Given
 
   -- what the call is to do
   abbrev outcome : SegmentOutcome
-  outcome = segmentCall settings prints (xs .now) (take n list) (take m moves)
+  outcome = segmentCall settings prints (xs .now) (length (take n list)) (length (take m moves))
 
   -- ---- the call
   module _ (l l′ ν μ : ℕ) (γ δ : GName) where
@@ -135,7 +135,7 @@ module _ {M : Type 1} (𝓤 : URA M) (H : Heap 𝓤) (A : Atoms 𝓤) (W : Given
   answer r es ms = record { answer = r; elected = listed es; moved = moved ms }
 
   abbrev Did : SegmentListing → List ℕ → List (Type 0)
-  Did r zs = (toldCounts (r .answer) ≡ outcome .answer) ∷ (r .elected ≡ listed (outcome .elected)) ∷ (r .moved ≡ moved (outcome .moved))
+  Did r zs = (toldCounts (r .answer) ≡ outcome .answer) ∷ (r .elected ≡ listed (written (outcome .elected) (take n list))) ∷ (r .moved ≡ moved (written (outcome .moved) (take m moves)))
       ∷ (zs ≡ outcome .words) ∷ []
 
   -- ---- the end
@@ -257,8 +257,8 @@ module _ {M : Type 1} (𝓤 : URA M) (H : Heap 𝓤) (A : Atoms 𝓤) (W : Given
           (and-then ! (load ! (from ! (stop !)) (look ! 33 refl)) (and-then ! (load ! (from ! (stop !)) (look ! 31 refl))
           (and-then ! (load ! (from ! (stop !)) (look ! 11 refl)) (and-then ! (load ! (from ! (stop !)) (look ! 7 refl)) (no-more !)))))) (λ w.
           answers EvaluatedOf ! tt (alive l₈ l₉ ν μ γ δ) (lasts callee.ended (κ, (ν ∷ [], (μ ∷ [], tt))) (to l₈ l₉ ν μ γ δ .0 .3))
-          (λ r zs. (toldCounts r ≡ outcome .answer) ∷ (zs .0 ≡ outcome .words) ∷ (zs .1 .1 .1 .0 ≡ outcome .elected)
-          ∷ (zs .1 .1 .1 .1 .0 ≡ outcome .moved) ∷ []) w (id⊢ 𝓤 _) (λ r zs is e.
+          (λ r zs. (toldCounts r ≡ outcome .answer) ∷ (zs .0 ≡ outcome .words) ∷ (zs .1 .1 .1 .0 ≡ written (outcome .elected) (take n list))
+          ∷ (zs .1 .1 .1 .1 .0 ≡ written (outcome .moved) (take m moves)) ∷ []) w (id⊢ 𝓤 _) (λ r zs is e.
           fsplit ! $ fsplit ! $ move ! (1 ∷ []) $ feqL ! (λ m₁. move ! (1 ∷ []) $ fsplit ! $ drop ! $ fsplit ! $ drop ! $
           fsplit ! $ fsplit ! $ move ! (1 ∷ []) $ feqL ! (λ m₂. move ! (1 ∷ []) $ fsplit ! $ fsplit ! $ move ! (1 ∷ []) $ feqL ! (λ m₃.
           -- [the last of the moved; true; of the elected; of the store; the tokens; what the lender keeps of the moved, of the elected; _18 (7); …]

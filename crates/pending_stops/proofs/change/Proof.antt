@@ -1,6 +1,6 @@
 -- `pending_stops::change` meets its contract.
 use native.Mathlib.Omega.{arith}
-use Rattle.pending_stops.proofs.Holding.{chainsOf}
+use Rattle.book.specs.Chains.{chainsOf}
 use Rattle.pending_stops.proofs.Placing.{chainsWithout}
 use Rattle.pending_stops.proofs.Replacing.{replacing-on, replacing-record, replacing-ready, replaced-length, replaced-stored}
 use Rattle.pending_stops.proofs.Vacating.{stored-room}
@@ -14,8 +14,8 @@ slice-write-s c = let (b, r, st, m, v, f) = c .before .pre in omega (arith, stor
 unlink-requires : tie.Need-unlink-requires
 unlink-requires c κs = let (b, r, st, m, v, f) = c .before .before .pre in (chainsOf b, replacing-on _ _ b r st _ _ m _ _ v f)
 
-set-entry-requires : tie.Need-set-entry-requires
-set-entry-requires c κs =
+write-entry-requires : tie.Need-write-entry-requires
+write-entry-requires c κs =
     let unlinked = c .before .before .before in
     let (b, r, st, m, v, f) = unlinked .before .before .before .pre in
     replacing-record _ _ b r st _ _ m _ _ v f _ (unlinked .unlink .ensures .0) (unlinked .unlink .ensures .1)
@@ -26,7 +26,7 @@ link-requires c κs =
     let unlinked = stored .before .before .before .before in
     let (b, r, st, m, v, f) = unlinked .before .before .before .pre in (
       chainsWithout _ (replaced _ _ _ b),
-      replacing-ready _ _ b r st _ _ m _ _ v f _ (unlinked .unlink .ensures .0) (unlinked .unlink .ensures .1) _ (stored .set-entry .ensures),
+      replacing-ready _ _ b r st _ _ m _ _ v f _ (unlinked .unlink .ensures .0) (unlinked .unlink .ensures .1) _ (stored .write-entry .ensures),
     )
 
 same-length : tie.Need-same-length
@@ -35,14 +35,14 @@ same-length c =
     let stored = linked .before .before .before .before .before in
     let unlinked = stored .before .before .before .before in
     let (b, r, st, m, v, f) = unlinked .before .before .before .pre in
-    replaced-length _ _ b r st _ _ m _ _ v f _ (unlinked .unlink .ensures .0) (unlinked .unlink .ensures .1) _ (stored .set-entry .ensures) _ (linked .link .ensures .0)
+    replaced-length _ _ b r st _ _ m _ _ v f _ (unlinked .unlink .ensures .0) (unlinked .unlink .ensures .1) _ (stored .write-entry .ensures) _ (linked .link .ensures .0)
 
 returns : tie.Need-returns
 returns c =
     let linked = c .before .before in
     let stored = linked .before .before .before .before .before in
     let unlinked = stored .before .before .before .before in
-    λ b r st m v f. replaced-stored _ _ b r st _ _ m _ _ v f _ (unlinked .unlink .ensures .0) (unlinked .unlink .ensures .1) _ (stored .set-entry .ensures) _ (linked .link .ensures .0) (linked .link .ensures .1)
+    λ b r st m v f. replaced-stored _ _ b r st _ _ m _ _ v f _ (unlinked .unlink .ensures .0) (unlinked .unlink .ensures .1) _ (stored .write-entry .ensures) _ (linked .link .ensures .0) (linked .link .ensures .1)
 
 pub change-spec : {M : Type 1} → statement M
 change-spec =
@@ -50,7 +50,7 @@ change-spec =
     (tie.spec
     slice-write-s
     unlink-requires
-    set-entry-requires
+    write-entry-requires
     link-requires
     same-length
     returns)

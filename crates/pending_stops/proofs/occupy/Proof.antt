@@ -3,7 +3,7 @@ use Prim.Native.Nat.{_<_, _^_}
 use native.Mathlib.Omega.{arith}
 use lib.ListN.{length-set}
 use Rattle.book.specs.Store.{admitted, newEntry}
-use Rattle.pending_stops.proofs.Holding.{chainsOf}
+use Rattle.book.specs.Chains.{chainsOf}
 use Rattle.pending_stops.proofs.Occupying.{free-first, count-room, next-word, occupying-chained, occupying-record, occupying-ready, occupied-length, occupied-stored}
 use Rattle.pending_stops.proofs.Placing.{chainsWithout}
 use Rattle.pending_stops.proofs.Vacating.{stored-room}
@@ -38,8 +38,8 @@ pop-requires c κs =
       free-first _ _ b r st (a .room),
     )
 
-set-entry-requires : tie.Need-set-entry-requires
-set-entry-requires c κs =
+write-entry-requires : tie.Need-write-entry-requires
+write-entry-requires c κs =
     let taken = c .before .before .before in
     let (b, r, st, a, last) = taken .before .before .before .before .before .pre in
     occupying-record _ _ b r st _ _ _ a _ (taken .pop .ensures .0) _ (taken .pop .ensures .1)
@@ -50,7 +50,7 @@ link-requires c κs =
     let taken = stored .before .before .before .before in
     let (b, r, st, a, last) = taken .before .before .before .before .before .pre in (
       chainsWithout _ (admitted (newEntry _ _ _ b) b),
-      occupying-ready _ _ b r st _ _ _ a _ (taken .pop .ensures .0) _ (taken .pop .ensures .1) _ (stored .set-entry .ensures),
+      occupying-ready _ _ b r st _ _ _ a _ (taken .pop .ensures .0) _ (taken .pop .ensures .1) _ (stored .write-entry .ensures),
     )
 
 same-length : tie.Need-same-length
@@ -59,7 +59,7 @@ same-length c =
     let stored = linked .before .before .before .before in
     let taken = stored .before .before .before .before in
     let (b, r, st, a, last) = taken .before .before .before .before .before .pre in
-    occupied-length _ _ b r st _ _ _ a _ (taken .pop .ensures .0) _ (taken .pop .ensures .1) _ (stored .set-entry .ensures) _ (linked .link .ensures .0)
+    occupied-length _ _ b r st _ _ _ a _ (taken .pop .ensures .0) _ (taken .pop .ensures .1) _ (stored .write-entry .ensures) _ (linked .link .ensures .0)
 
 returns : tie.Need-returns
 unfolding newEntry
@@ -70,7 +70,7 @@ returns c =
     let start = taken .before .before .before .before .before in
     λ b r st a last. (
       next-word _ _ b r st (a .room),
-      occupied-stored _ _ b r st _ _ _ a _ (taken .pop .ensures .0) _ (taken .pop .ensures .1) _ (stored .set-entry .ensures)
+      occupied-stored _ _ b r st _ _ _ a _ (taken .pop .ensures .0) _ (taken .pop .ensures .1) _ (stored .write-entry .ensures)
           (record {
             high = omega (arith, start .good);
             low = omega (arith, start .good);
@@ -94,7 +94,7 @@ occupy-spec =
     add-s-2
     slice-write-s-2
     pop-requires
-    set-entry-requires
+    write-entry-requires
     link-requires
     same-length
     returns)

@@ -1,6 +1,6 @@
 -- `pending_stops::vacate` meets its contract.
 use native.Mathlib.Omega.{arith}
-use Rattle.pending_stops.proofs.Holding.{chainsOf}
+use Rattle.book.specs.Chains.{chainsOf}
 use Rattle.pending_stops.proofs.Placing.{chainsWithout}
 use Rattle.pending_stops.proofs.Vacating.{stored-room, count-some, on1, record2, ready3, blank3, vacated-length, vacated-stored}
 use Rattle.pending_stops.proofs.vacate.Statement.{statement}
@@ -18,8 +18,8 @@ slice-write-s c = let (b, r, st, m) = c .before .before .pre in omega (arith, st
 unlink-requires : tie.Need-unlink-requires
 unlink-requires c κs = let (b, r, st, m) = c .before .before .before .pre in (chainsOf b, on1 _ _ b r st _ _ m)
 
-blank-requires : tie.Need-blank-requires
-blank-requires c κs =
+write-free-requires : tie.Need-write-free-requires
+write-free-requires c κs =
     let unlinked = c .before .before .before in
     let (b, r, st, m) = unlinked .before .before .before .before .pre in
     record2 _ _ b r st _ _ m _ (unlinked .unlink .ensures .0) (unlinked .unlink .ensures .1)
@@ -30,8 +30,8 @@ push-requires c κs =
     let unlinked = blanked .before .before .before .before in
     let (b, r, st, m) = unlinked .before .before .before .before .pre in (
       chainsWithout _ b,
-      ready3 _ _ b r st _ _ m _ (unlinked .unlink .ensures .0) (unlinked .unlink .ensures .1) _ (blanked .blank .ensures),
-      blank3 _ _ b r st _ _ m _ (unlinked .unlink .ensures .0) (unlinked .unlink .ensures .1) _ (blanked .blank .ensures),
+      ready3 _ _ b r st _ _ m _ (unlinked .unlink .ensures .0) (unlinked .unlink .ensures .1) _ (blanked .write-free .ensures),
+      blank3 _ _ b r st _ _ m _ (unlinked .unlink .ensures .0) (unlinked .unlink .ensures .1) _ (blanked .write-free .ensures),
     )
 
 same-length : tie.Need-same-length
@@ -40,14 +40,14 @@ same-length c =
     let blanked = pushed .before .before .before .before in
     let unlinked = blanked .before .before .before .before in
     let (b, r, st, m) = unlinked .before .before .before .before .pre in
-    vacated-length _ _ b r st _ _ m _ (unlinked .unlink .ensures .0) (unlinked .unlink .ensures .1) _ (blanked .blank .ensures) _ (pushed .push .ensures .0)
+    vacated-length _ _ b r st _ _ m _ (unlinked .unlink .ensures .0) (unlinked .unlink .ensures .1) _ (blanked .write-free .ensures) _ (pushed .push .ensures .0)
 
 returns : tie.Need-returns
 returns c =
     let pushed = c .before .before in
     let blanked = pushed .before .before .before .before in
     let unlinked = blanked .before .before .before .before in
-    λ b r st m. vacated-stored _ _ b r st _ _ m _ (unlinked .unlink .ensures .0) (unlinked .unlink .ensures .1) _ (blanked .blank .ensures) _ (pushed .push .ensures .0) (pushed .push .ensures .1)
+    λ b r st m. vacated-stored _ _ b r st _ _ m _ (unlinked .unlink .ensures .0) (unlinked .unlink .ensures .1) _ (blanked .write-free .ensures) _ (pushed .push .ensures .0) (pushed .push .ensures .1)
 
 pub vacate-spec : {M : Type 1} → statement M
 vacate-spec =
@@ -57,7 +57,7 @@ vacate-spec =
     sub-s
     slice-write-s
     unlink-requires
-    blank-requires
+    write-free-requires
     push-requires
     same-length
     returns)

@@ -1,6 +1,6 @@
 -- `sha1::block` meets its contract, by congruence from what its three callees ensure.
 use borrow.Author.Needs.{needs}
-use Rattle.sha1.specs.Fips.{block}
+use Rattle.fips180.specs.Fips.{block}
 use Rattle.sha1.proofs.block.Statement.{statement}
 use Rattle.sha1.proofs.block.Tie as tie
 

@@ -1,6 +1,6 @@
 -- `sha1::digest` meets its contract: the empty head adds nothing to the message.
 use borrow.Author.Needs.{needs}
-use Rattle.sha1.specs.Fips.{digest}
+use Rattle.fips180.specs.Fips.{digest}
 use Rattle.sha1.proofs.digest.Statement.{statement}
 use Rattle.sha1.proofs.digest.Tie as tie
 

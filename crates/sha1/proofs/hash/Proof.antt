@@ -5,9 +5,9 @@ use mathlib.Core.Path.{_≡_, ap, _∙_}
 use native.Mathlib.Omega.{arith}
 use borrow.Author.Needs.{needs}
 use lib.ListN.{length, length-append}
-use Rattle.sha1.proofs.Pad.{pad-blocks}
-use Rattle.sha1.proofs.Turns.{blocks-turn}
-use Rattle.sha1.specs.Fips.{pad, blocks, hash}
+use Rattle.fips180.proofs.Pad.{pad-blocks}
+use Rattle.fips180.proofs.Turns.{blocks-turn}
+use Rattle.fips180.specs.Fips.{pad, blocks, hash}
 use Rattle.sha1.proofs.hash.Statement.{statement}
 use Rattle.sha1.proofs.hash.Tie as tie
 

@@ -1,6 +1,6 @@
 -- `sha1::octets` meets its contract: each octet is what `octet` ensures, by congruence.
 use borrow.Author.Needs.{needs}
-use Rattle.sha1.specs.Fips.{bigEndian, octets}
+use Rattle.fips180.specs.Fips.{bigEndian, octets}
 use Rattle.sha1.proofs.octets.Statement.{statement}
 use Rattle.sha1.proofs.octets.Tie as tie
 

@@ -1,7 +1,7 @@
 -- `sha1::steps` meets its contract: each part starts where the one before it ends.
 use mathlib.Core.Path.{refl}
 use borrow.Author.Needs.{needs}
-use Rattle.sha1.specs.Fips.{steps}
+use Rattle.fips180.specs.Fips.{steps}
 use Rattle.sha1.proofs.steps.Statement.{statement}
 use Rattle.sha1.proofs.steps.Tie as tie
 

@@ -3,9 +3,9 @@ use Prim.Native.Nat.{_≤_, _-_}
 use mathlib.Core.Path.{_≡_, ap, _∙_}
 use native.Mathlib.Omega.{arith}
 use borrow.Author.Needs.{needs}
-use Rattle.sha1.proofs.Turns.{steps-turn}
-use Rattle.sha1.specs.Fips.{steps}
-use Rattle.sha1.specs.declared.State.{State}
+use Rattle.fips180.proofs.Turns.{steps-turn}
+use Rattle.fips180.specs.Fips.{steps}
+use Rattle.fips180.specs.declared.State.{State}
 use Rattle.sha1.proofs.steps_to.Statement.{statement}
 use Rattle.sha1.proofs.steps_to.Tie as tie
 

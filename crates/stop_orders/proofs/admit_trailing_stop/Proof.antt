@@ -16,8 +16,8 @@ use Rattle.stop_orders.proofs.Walking.{onEntry, tripleOf, Contract, Tri
 use Rattle.stop_orders.proofs.Walking.{lasts, entered, cited, Stays, gave-ref, gave-slice}
 use Rattle.stop_orders.proofs.Walking.{walkOf, AllGo, goes-gave-ref, goes-gave-slice, Walks}
 use Rattle.stop_orders.proofs.Walking.{ends-at, walked}
-use Rattle.admission.specs.Answers.{toldAdmission}
-use Rattle.admission.specs.declared.Admission.{Admission}
+use Rattle.book.specs.Answers.{toldAdmission}
+use Rattle.book.specs.declared.Admission.{Admission}
 use Rattle.book.specs.declared.PrintPath.{PrintPath}
 use Rattle.book.specs.Store.{admit}
 use Rattle.book.specs.Store as store

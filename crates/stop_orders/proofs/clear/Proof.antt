@@ -17,10 +17,10 @@ use Rattle.stop_orders.proofs.Walking.{onEntry, tripleOf, Contract, Tri
 use Rattle.stop_orders.proofs.Walking.{lasts, entered, cited, Stays, gave-ref, gave-slice}
 use Rattle.stop_orders.proofs.Walking.{walkOf, AllGo, goes-gave-ref, goes-gave-slice, Walks}
 use Rattle.stop_orders.proofs.Walking.{ends-at, walked}
-use Rattle.admission.specs.declared.Cleared.{Cleared}
+use Rattle.book.specs.declared.Cleared.{Cleared}
 use Rattle.book.specs.declared.PrintPath.{PrintPath}
 use Rattle.book.specs.Store.{clear}
-use Rattle.store_words.specs.Empty.{toldLayout}
+use Rattle.book.specs.Answers.{toldLayout}
 use Rattle.stop_orders.proofs.Claims.{All, claimed}
 use Rattle.stop_orders.proofs.Plain.{Stands, value, stands}
 use Rattle.stop_orders.proofs.Types.{PathOf, LayoutOf, ClearedOf, cleared-parts}

@@ -12,16 +12,15 @@ use denote.Triple.Spec.{tripleOf}
 use denote.Triple.Statement.{Contract}
 use denote.Triple.Table.{entered, cited}
 use Rattle.error.specs.Answer.{Answer}
-use Rattle.book.specs.Calls.{PassCounts}
-use Rattle.book.specs.declared.Elected.{Elected}
+use Rattle.book.specs.declared.PassCounts.{PassCounts}
 use Rattle.book.specs.declared.PrintSegment.{PrintSegment}
 use Rattle.book.specs.declared.Settings.{Settings}
-use Rattle.evaluation.specs.Answers.{toldPass}
+use Rattle.book.specs.Answers.{toldPass}
 use Rattle.stop_orders.specs.Records.{electedOf}
 use Rattle.stop_orders.specs.declared.PassRun.{PassRun}
 use Rattle.stop_orders.proofs.Constants.{electedWide}
 use Rattle.stop_orders.proofs.Cut.{Left}
-use Rattle.stop_orders.proofs.CutPass.{passOn}
+use Rattle.stop_orders.proofs.CutCalls.{passTo}
 use Rattle.stop_orders.proofs.Evaluating.{Handed, plainly, numbers, Parts, Evaluates, meets}
 use Rattle.stop_orders.proofs.Filling.{Fills}
 use Rattle.stop_orders.proofs.Types.{PrintsOf, ElectedOf, PassedOf, PassRunOf, pass-run-parts}
@@ -45,8 +44,8 @@ count r = r .count
 abbrev segment : Handed
 segment = plainly PrintsOf (λ d. tt)
 
-abbrev outcome : (κ : Lft) → Settings → RefT (List ℕ) → PrintSegment → List ℕ → List Elected → Left (Answer PassCounts) Elected
-outcome κ settings script prints w list = passOn settings (script .now) prints w list
+abbrev outcome : (κ : Lft) → Settings → RefT (List ℕ) → PrintSegment → List ℕ → ℕ → Left (Answer PassCounts)
+outcome κ settings script prints w room = passTo settings (script .now) prints w room
 
 parts : Parts PassedOf PassRunOf answer count numbers segment toldPass outcome
 parts = record { shaped = refl; spelt = λ r. refl; stand = pass-run-parts }

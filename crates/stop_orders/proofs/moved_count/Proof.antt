@@ -1,5 +1,5 @@
 -- `moved_count` meets its contract: each arm knows its variant.
-use Rattle.evaluation.specs.Answers.{toldCounts}
+use Rattle.book.specs.Answers.{toldCounts}
 use Rattle.stop_orders.specs.Records.{movedCount}
 use borrow.Author.Needs.{needs}
 use borrow.Author.Needs.{needs}

@@ -1,5 +1,5 @@
 -- `pass_count` meets its contract: each arm knows its variant.
-use Rattle.evaluation.specs.Answers.{toldPass}
+use Rattle.book.specs.Answers.{toldPass}
 use Rattle.stop_orders.specs.Records.{passCount}
 use borrow.Author.Needs.{needs}
 use Rattle.stop_orders.proofs.pass_count.Statement.{statement}

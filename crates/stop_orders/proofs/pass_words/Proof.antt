@@ -1,8 +1,8 @@
 -- `pass_words` meets its contract: the pass over the part of the words that the list has room for.
-use mathlib.Core.Path.{sym}
+use mathlib.Core.Path.{refl, sym}
 use Rattle.stop_orders.specs.Records.{passCount}
 use Rattle.stop_orders.proofs.Cut.{part-length, cut-words}
-use Rattle.stop_orders.proofs.CutPass.{passOver, passOn, pass-few, pass-alike}
+use Rattle.stop_orders.proofs.CutCalls.{passTo, pass-lists, pass-cut}
 use borrow.Author.Needs.{needs}
 use Rattle.stop_orders.proofs.pass_words.Statement.{statement}
 use Rattle.stop_orders.proofs.pass_words.Tie as tie
@@ -14,7 +14,7 @@ slice-relend-prefix-evaluate-pending-stops : tie.Need-slice-relend-prefix-evalua
 slice-relend-prefix-evaluate-pending-stops c = search needs
 
 slice-aggregate-evaluate-pending-stops : tie.Need-slice-aggregate-evaluate-pending-stops
-slice-aggregate-evaluate-pending-stops c = sym (part-length _ _ _ (c .before .before .least .ensures))
+slice-aggregate-evaluate-pending-stops c = sym (part-length _ _ _ _ refl (c .before .before .least .ensures))
 
 evaluate-pending-stops-requires : tie.Need-evaluate-pending-stops-requires
 evaluate-pending-stops-requires c κs = search needs
@@ -35,9 +35,9 @@ returns c =
     let a = l .before .before .before .args in
     let d = w .evaluate-pending-stops .ensures in
     let script = a .script .now in
-    cut-words passCount (passOver (a .settings) script (a .prints) (a .s .now)) (passOn (a .settings) script (a .prints) (a .s .now))
-    (pass-few (a .settings) script (a .prints) (a .s .now)) (pass-alike (a .settings) script (a .prints) (a .s .now)) (a .words .now) (a .room) _
-    (l .before .before .before .pre) (l .least .ensures) _ _ _ _ (c .pass-count .ensures) (d .0) (d .1 .0) (d .1 .1)
+    cut-words passCount (passTo (a .settings) script (a .prints) (a .s .now)) (pass-lists (a .settings) script (a .prints) (a .s .now))
+    (pass-cut (a .settings) script (a .prints) (a .s .now)) (a .words .now) (a .room) _ (l .before .before .before .pre) (l .least .ensures) _ _ _ _
+    (c .pass-count .ensures) (d .0) (d .1 .0) (d .1 .1)
 
 pub pass-words-spec : {M : Type 1} → statement M
 pass-words-spec =

@@ -1,6 +1,6 @@
 -- `run_stop_triggers` meets its contract, by a walk of its MIR: a local array of words is lent to `run_words`, then, to be read, to `fill_elected`.
 -- The store goes to the first call for good, with a copy of the path, and the list to the second. The path that the first answers is stored.
-use mathlib.Core.Path.{_≡_, refl, sym, subst, _∙_}
+use mathlib.Core.Path.{_≡_, refl, sym, ap, subst, _∙_}
 use Prim.Native.Nat.{ℕ, _≤_, _<_, _^_}
 use mathlib.Core.List.{[], _∷_, _++_, List, map}
 use lib.Dec.{lit<}
@@ -43,12 +43,12 @@ use denote.Triple.Walked.{says, Stays, gave-ref, gave-slice, stay-dropped, walkO
 use denote.Triple.Walked.{goes-gave-ref, goes-gave-slice, goes-dropped, Walks, ends-at, walked, walk-meets}
 use denote.Exit.{yes}
 use Rattle.book.specs.Calls.{written, runCall, RunOutcome}
-use Rattle.book.specs.Words.{mostRecords}
+use Rattle.book.specs.Sizes.{mostRecords}
 use Rattle.book.specs.declared.Elected.{Elected}
 use Rattle.book.specs.declared.LastPrice.{LastPrice}
 use Rattle.book.specs.declared.PrintPath.{PrintPath}
 use Rattle.book.specs.declared.Settings.{Settings}
-use Rattle.evaluation.specs.Answers.{toldPass}
+use Rattle.book.specs.Answers.{toldPass}
 use Rattle.stop_orders.specs.Records.{electedOf}
 use Rattle.stop_orders.specs.declared.TriggerRun.{TriggerRun}
 use Rattle.stop_orders.proofs.Claims.{All, claimed}
@@ -143,8 +143,8 @@ module _ {M : Type 1} (𝓤 : URA M) (H : Heap 𝓤) (A : Atoms 𝓤) (W : Given
   Borrow = fbor κ₂ (Body (mem (PathOf .row)) b o γ)
 
   -- what the call is to do
-  abbrev outcome : List Elected → RunOutcome
-  outcome list = runCall settings (xp .now) trade (xs .now) list h
+  abbrev outcome : RunOutcome
+  outcome = runCall settings (xp .now) trade (xs .now) (length (xe .now)) h
 
   module _ (l₇ : ℕ) where
     -- the local array of words, and its machine value as a slice
@@ -192,10 +192,8 @@ module _ {M : Type 1} (𝓤 : URA M) (H : Heap 𝓤) (A : Atoms 𝓤) (W : Given
     abbrev Did : TriggerRun → List ℕ → List (List ℕ) → List (Type 0)
     Did r zs ws =
         ((r .count ≤ length (xe .now)) × (r .count ≤ mostRecords))
-        ∷ ((list : List Elected) → length list ≡ length (xe .now) → toldPass (r .answer) ≡ outcome list .answer)
-        ∷ ((list : List Elected) → length list ≡ length (xe .now) → r .path ≡ outcome list .path)
-        ∷ ((list : List Elected) → length list ≡ length (xe .now) → zs ≡ outcome list .words)
-        ∷ ((list : List Elected) → length list ≡ length (xe .now) → written (map electedOf (take (r .count) ws)) list ≡ outcome list .elected)
+        ∷ (toldPass (r .answer) ≡ outcome .answer) ∷ (r .path ≡ outcome .path) ∷ (zs ≡ outcome .words)
+        ∷ (map electedOf (take (r .count) ws) ≡ outcome .elected)
         ∷ []
 
     -- ---- the second call
@@ -205,8 +203,8 @@ module _ {M : Type 1} (𝓤 : URA M) (H : Heap 𝓤) (A : Atoms 𝓤) (W : Given
   -- ---- the end
   abbrev Done : TriggerRun → List ℕ → List Elected → List (Type 0)
   Done r zs ms =
-      (toldPass (r .answer) ≡ outcome (xe .now) .answer) ∷ (r .path ≡ outcome (xe .now) .path) ∷ (zs ≡ outcome (xe .now) .words)
-      ∷ (ms ≡ outcome (xe .now) .elected) ∷ []
+      (toldPass (r .answer) ≡ outcome .answer) ∷ (r .path ≡ outcome .path) ∷ (zs ≡ outcome .words)
+      ∷ (ms ≡ written (outcome .elected) (xe .now)) ∷ []
 
   abbrev Left : TriggerRun → List ℕ → List Elected → List (Item 𝓤)
   Left r zs ms =
@@ -306,8 +304,8 @@ module _ {M : Type 1} (𝓤 : URA M) (H : Heap 𝓤) (A : Atoms 𝓤) (W : Given
           move ! (0 ∷ 34 ∷ []) $ free1 ! $ frees-all ! 7 (first (TriggerRunOf .val r) ++ second w) tt refl $ free0 ! $
           keep ! (6 ∷ 1 ∷ 4 ∷ 3 ∷ 5 ∷ 2 ∷ 0 ∷ []) $
           by ! (exits r is zs m₁ ms m₂ (
-            e .1 .0 (xe .now) refl,
-            (e .1 .1 .0 (xe .now) refl, (e .1 .1 .1 .0 (xe .now) refl, eq ∙ e .1 .1 .1 .1 (xe .now) refl)),
+            e .1 .0,
+            (e .1 .1 .0, (e .1 .1 .1 .0, eq ∙ ap (λ (t : List Elected). written t (xe .now)) (e .1 .1 .1 .1))),
           )))
 
       -- before it, once the local array lies in memory as its elements

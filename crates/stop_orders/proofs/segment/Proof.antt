@@ -1,6 +1,6 @@
 -- `segment` meets its contract, by a walk of its MIR: two local arrays of words are lent to `segment_words`, then, to be read, to `fill_elected`
 -- and `fill_moved`. The store goes to the first call for good, the lists to the others.
-use mathlib.Core.Path.{_≡_, refl, sym, subst, _∙_}
+use mathlib.Core.Path.{_≡_, refl, sym, ap, subst, _∙_}
 use Prim.Native.Nat.{ℕ, _≤_, _<_, _^_}
 use mathlib.Core.List.{[], _∷_, _++_, List, map}
 use lib.Dec.{lit<}
@@ -40,12 +40,12 @@ use denote.Triple.Table.{entered, cited}
 use denote.Triple.Walked.{says, Stays, gave-slice, stay-dropped, walkOf, AllGo, goes-gave-slice, goes-dropped, Walks, ends-at, walked, walk-meets}
 use denote.Exit.{yes}
 use Rattle.book.specs.Calls.{written, segmentCall, SegmentOutcome}
-use Rattle.book.specs.Words.{mostRecords}
+use Rattle.book.specs.Sizes.{mostRecords}
 use Rattle.book.specs.declared.Elected.{Elected}
 use Rattle.book.specs.declared.Moved.{Moved}
 use Rattle.book.specs.declared.PrintSegment.{PrintSegment}
 use Rattle.book.specs.declared.Settings.{Settings}
-use Rattle.evaluation.specs.Answers.{toldCounts}
+use Rattle.book.specs.Answers.{toldCounts}
 use Rattle.stop_orders.specs.Records.{electedOf, movedOf}
 use Rattle.stop_orders.specs.declared.SegmentRun.{SegmentRun}
 use Rattle.stop_orders.proofs.Claims.{All, claimed}
@@ -136,8 +136,8 @@ module _ {M : Type 1} (𝓤 : URA M) (H : Heap 𝓤) (A : Atoms 𝓤) (W : Given
   Moveds = MutSlice (named 2) κ₃ S .own xm (s₃ ∷ [])
 
   -- what the call is to do
-  abbrev outcome : List Elected → List Moved → SegmentOutcome
-  outcome e m = segmentCall settings prints (xs .now) e m
+  abbrev outcome : SegmentOutcome
+  outcome = segmentCall settings prints (xs .now) (length (xe .now)) (length (xm .now))
 
   -- a local array of words, and its machine value as a slice
   abbrev x : ℕ → GName → List (List ℕ) → RefT (List (List ℕ))
@@ -197,13 +197,8 @@ module _ {M : Type 1} (𝓤 : URA M) (H : Heap 𝓤) (A : Atoms 𝓤) (W : Given
   abbrev Did : SegmentRun → List ℕ → List (List ℕ) → List (List ℕ) → List (Type 0)
   Did r zs fs vs =
       (((r .elected ≤ length (xe .now)) × (r .elected ≤ mostRecords)) × ((r .moved ≤ length (xm .now)) × (r .moved ≤ mostMoves)))
-      ∷ ((e : List Elected) (m : List Moved) → length e ≡ length (xe .now) → length m ≡ length (xm .now)
-      → toldCounts (r .answer) ≡ outcome e m .answer)
-      ∷ ((e : List Elected) (m : List Moved) → length e ≡ length (xe .now) → length m ≡ length (xm .now) → zs ≡ outcome e m .words)
-      ∷ ((e : List Elected) (m : List Moved) → length e ≡ length (xe .now) → length m ≡ length (xm .now)
-      → written (map electedOf (take (r .elected) fs)) e ≡ outcome e m .elected)
-      ∷ ((e : List Elected) (m : List Moved) → length e ≡ length (xe .now) → length m ≡ length (xm .now)
-      → written (map movedOf (take (r .moved) vs)) m ≡ outcome e m .moved)
+      ∷ (toldCounts (r .answer) ≡ outcome .answer) ∷ (zs ≡ outcome .words)
+      ∷ (map electedOf (take (r .elected) fs) ≡ outcome .elected) ∷ (map movedOf (take (r .moved) vs) ≡ outcome .moved)
       ∷ []
 
   -- ---- the other calls
@@ -218,8 +213,8 @@ module _ {M : Type 1} (𝓤 : URA M) (H : Heap 𝓤) (A : Atoms 𝓤) (W : Given
   -- ---- the end
   abbrev Done : SegmentRun → List ℕ → List Elected → List Moved → List (Type 0)
   Done r zs es ms =
-      (toldCounts (r .answer) ≡ outcome (xe .now) (xm .now) .answer) ∷ (zs ≡ outcome (xe .now) (xm .now) .words)
-      ∷ (es ≡ outcome (xe .now) (xm .now) .elected) ∷ (ms ≡ outcome (xe .now) (xm .now) .moved) ∷ []
+      (toldCounts (r .answer) ≡ outcome .answer) ∷ (zs ≡ outcome .words)
+      ∷ (es ≡ written (outcome .elected) (xe .now)) ∷ (ms ≡ written (outcome .moved) (xm .now)) ∷ []
 
   abbrev Last : List ℕ → List Elected → List Moved → List (Item 𝓤)
   Last zs es ms = ‵ (finally u64 (xs .name) zs) ∷ ‵ (finally R (xe .name) es) ∷ ‵ (finally S (xm .name) ms) ∷ ‵ (flft κ₁ q₁) ∷ ‵ (flft κ₂ q₂)
@@ -333,12 +328,12 @@ module _ {M : Type 1} (𝓤 : URA M) (H : Heap 𝓤) (A : Atoms 𝓤) (W : Given
           move ! (0 ∷ 49 ∷ []) $ free1 ! $ move ! (0 ∷ 47 ∷ []) $ free1 ! $
           frees-all ! 6 (first (SegmentRunOf .val r) ++ full w ∷ second ++ third) tt refl $ free0 ! $
           keep ! (5 ∷ 3 ∷ 1 ∷ 4 ∷ 2 ∷ 0 ∷ []) $ by ! (exits r is zs m₁ es m₂ ms m (
-            e .1 .0 (xe .now) (xm .now) refl refl,
+            e .1 .0,
             (
-              e .1 .1 .0 (xe .now) (xm .now) refl refl,
+              e .1 .1 .0,
               (
-                k ∙ e .1 .1 .1 .0 (xe .now) (xm .now) refl refl,
-                h ∙ e .1 .1 .1 .1 (xe .now) (xm .now) refl refl,
+                k ∙ ap (λ (t : List Elected). written t (xe .now)) (e .1 .1 .1 .0),
+                h ∙ ap (λ (t : List Moved). written t (xm .now)) (e .1 .1 .1 .1),
               ),
             ),
           )))

@@ -1,7 +1,7 @@
 -- `segment_words` meets its contract: the segment over the parts of the words that the lists have room for.
-use mathlib.Core.Path.{sym}
+use mathlib.Core.Path.{refl, sym}
 use Rattle.stop_orders.proofs.Cut.{part-length}
-use Rattle.stop_orders.proofs.CutSegment.{segment-words}
+use Rattle.stop_orders.proofs.CutCalls.{segment-words}
 use borrow.Author.Needs.{needs}
 use borrow.Author.Needs.{needs}
 use Rattle.stop_orders.proofs.segment_words.Statement.{statement}
@@ -17,13 +17,13 @@ slice-relend-prefix-segment : tie.Need-slice-relend-prefix-segment
 slice-relend-prefix-segment c = search needs
 
 slice-aggregate-segment : tie.Need-slice-aggregate-segment
-slice-aggregate-segment c = sym (part-length _ _ _ (c .before .before .before .least .ensures))
+slice-aggregate-segment c = sym (part-length _ _ _ _ refl (c .before .before .before .least .ensures))
 
 slice-relend-prefix-segment-2 : tie.Need-slice-relend-prefix-segment-2
 slice-relend-prefix-segment-2 c = search needs
 
 slice-aggregate-segment-2 : tie.Need-slice-aggregate-segment-2
-slice-aggregate-segment-2 c = sym (part-length _ _ _ (c .before .before .before .least2 .ensures))
+slice-aggregate-segment-2 c = sym (part-length _ _ _ _ refl (c .before .before .before .least2 .ensures))
 
 segment-requires : tie.Need-segment-requires
 segment-requires c κs = search needs

@@ -12,17 +12,16 @@ use denote.Triple.Spec.{tripleOf}
 use denote.Triple.Statement.{Contract}
 use denote.Triple.Table.{entered, cited}
 use Rattle.error.specs.Answer.{Answer}
-use Rattle.book.specs.Calls.{Counts}
-use Rattle.book.specs.declared.Elected.{Elected}
+use Rattle.book.specs.declared.Counts.{Counts}
 use Rattle.book.specs.declared.LastPrice.{LastPrice}
 use Rattle.book.specs.declared.Settings.{Settings}
-use Rattle.evaluation.specs.Answers.{toldCounts}
-use Rattle.points.specs.Steps.{toPrice}
+use Rattle.book.specs.Answers.{toldCounts}
+use Rattle.pricelevel.specs.Price.{toPrice}
 use Rattle.stop_orders.specs.Records.{electedOf}
 use Rattle.stop_orders.specs.declared.Run.{Run}
 use Rattle.stop_orders.proofs.Constants.{electedWide}
 use Rattle.stop_orders.proofs.Cut.{Left}
-use Rattle.stop_orders.proofs.CutWalk.{walkOn}
+use Rattle.stop_orders.proofs.CutCalls.{walkTo}
 use Rattle.stop_orders.proofs.Evaluating.{Handed, plainly, numbers, Parts, Evaluates, meets}
 use Rattle.stop_orders.proofs.Filling.{Fills}
 use Rattle.stop_orders.proofs.Types.{LastOf, ElectedOf, EvaluatedOf, RunOf, run-parts}
@@ -46,8 +45,8 @@ count r = r .count
 abbrev prev : Handed
 prev = plainly LastOf (λ d. tt)
 
-abbrev outcome : (κ : Lft) → Settings → LastPrice → RefT (List ℕ) → List ℕ → List Elected → Left (Answer Counts) Elected
-outcome κ settings before prices w list = walkOn settings before (map toPrice (prices .now)) w list
+abbrev outcome : (κ : Lft) → Settings → LastPrice → RefT (List ℕ) → List ℕ → ℕ → Left (Answer Counts)
+outcome κ settings before prices w room = walkTo settings before (map toPrice (prices .now)) w room
 
 parts : Parts EvaluatedOf RunOf answer count prev numbers toldCounts outcome
 parts = record { shaped = refl; spelt = λ r. refl; stand = run-parts }

@@ -1,10 +1,10 @@
 -- `walk_words` meets its contract: the walk over the part of the words that the list has room for.
-use mathlib.Core.Path.{sym}
+use mathlib.Core.Path.{refl, sym}
 use mathlib.Core.List.{map}
-use Rattle.points.specs.Steps.{toPrice}
+use Rattle.pricelevel.specs.Price.{toPrice}
 use Rattle.stop_orders.specs.Records.{electedCount}
 use Rattle.stop_orders.proofs.Cut.{part-length, cut-words}
-use Rattle.stop_orders.proofs.CutWalk.{walkOver, walkOn, walk-few, walk-alike}
+use Rattle.stop_orders.proofs.CutCalls.{walkTo, walk-lists, walk-cut}
 use borrow.Author.Needs.{needs}
 use Rattle.stop_orders.proofs.walk_words.Statement.{statement}
 use Rattle.stop_orders.proofs.walk_words.Tie as tie
@@ -16,7 +16,7 @@ slice-relend-prefix-walk : tie.Need-slice-relend-prefix-walk
 slice-relend-prefix-walk c = search needs
 
 slice-aggregate-walk : tie.Need-slice-aggregate-walk
-slice-aggregate-walk c = sym (part-length _ _ _ (c .before .before .least .ensures))
+slice-aggregate-walk c = sym (part-length _ _ _ _ refl (c .before .before .least .ensures))
 
 walk-requires : tie.Need-walk-requires
 walk-requires c κs = search needs
@@ -38,9 +38,9 @@ returns c =
     let d = w .walk .ensures in
     let settings = a .settings in
     let prices = map toPrice (a .prices .now) in
-    cut-words electedCount (walkOver settings (a .prev) prices (a .s .now)) (walkOn settings (a .prev) prices (a .s .now))
-    (walk-few settings (a .prev) prices (a .s .now)) (walk-alike settings (a .prev) prices (a .s .now)) (a .words .now) (a .room) _
-    (l .before .before .before .pre) (l .least .ensures) _ _ _ _ (c .elected-count .ensures) (d .0) (d .1 .0) (d .1 .1)
+    cut-words electedCount (walkTo settings (a .prev) prices (a .s .now)) (walk-lists settings (a .prev) prices (a .s .now))
+    (walk-cut settings (a .prev) prices (a .s .now)) (a .words .now) (a .room) _ (l .before .before .before .pre) (l .least .ensures) _ _ _ _
+    (c .elected-count .ensures) (d .0) (d .1 .0) (d .1 .1)
 
 pub walk-words-spec : {M : Type 1} → statement M
 walk-words-spec =

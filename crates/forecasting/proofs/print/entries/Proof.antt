@@ -3,7 +3,7 @@ use Prim.Native.Nat.{_≤_, _-_}
 use mathlib.Core.Path.{_≡_}
 use lib.ListN.{length}
 use borrow.Author.Needs.{needs}
-use Rattle.book.specs.Words.{mostRecords}
+use Rattle.book.specs.Sizes.{mostRecords}
 use Rattle.forecasting.proofs.print.entries.Statement.{statement}
 use Rattle.forecasting.proofs.print.entries.Tie as tie
 

@@ -1,6 +1,6 @@
 -- `uuid::Uuid::as_bytes` meets its contract: each octet is what `octet` ensures, by congruence.
 use borrow.Author.Needs.{needs}
-use Rattle.sha1.specs.Fips.{bigEndian}
+use Rattle.fips180.specs.Fips.{bigEndian}
 use Rattle.uuid.specs.Rfc9562.{octetsOf}
 use Rattle.uuid.proofs.Uuid.as_bytes.Statement.{statement}
 use Rattle.uuid.proofs.Uuid.as_bytes.Tie as tie

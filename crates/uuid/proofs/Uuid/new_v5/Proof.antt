@@ -1,6 +1,6 @@
 -- `uuid::Uuid::new_v5` meets its contract, by congruence from what its callees ensure.
 use borrow.Author.Needs.{needs}
-use Rattle.sha1.specs.Fips.{digest}
+use Rattle.fips180.specs.Fips.{digest}
 use Rattle.uuid.specs.Rfc9562.{v5}
 use Rattle.uuid.proofs.Uuid.new_v5.Statement.{statement}
 use Rattle.uuid.proofs.Uuid.new_v5.Tie as tie

@@ -1,0 +1,53 @@
+-- `both_ways::evaluate_both_ways` meets its contract: demand 3, from the contracts of both calls.
+use mathlib.Core.List.{map}
+use Rattle.pricelevel.specs.Price.{toPrice}
+use Rattle.both_ways.proofs.Deciding.{decided}
+use borrow.Author.Needs.{needs}
+use Rattle.both_ways.proofs.evaluate_both_ways.Statement.{statement}
+use Rattle.both_ways.proofs.evaluate_both_ways.Tie as tie
+
+over-ends-requires : tie.Need-over-ends-requires
+over-ends-requires c κs = search needs
+
+walk-requires : tie.Need-walk-requires
+walk-requires c κs = search needs
+
+same-length : tie.Need-same-length
+same-length c = search needs
+
+same-length-2 : tie.Need-same-length-2
+same-length-2 c = search needs
+
+same-length-3 : tie.Need-same-length-3
+same-length-3 c = search needs
+
+same-length-4 : tie.Need-same-length-4
+same-length-4 c = search needs
+
+same-length-5 : tie.Need-same-length-5
+same-length-5 c = search needs
+
+returns : tie.Need-returns
+returns c =
+    let w = c .before .before .before in
+    let o = w .before .before .before .before .before .before .before in
+    let g = o .before .before .before .before .before .before .before .args in
+    let d = o .over-ends .ensures in
+    let e = w .walk .ensures in
+    let all =
+    decided (g .settings) (g .prev) (map toPrice (g .prices .now)) (g .ends .now) (g .run .now) (g .elected .now) (g .moved .now) (g .listed .now)
+    _ _ _ _ _ _ (d .0) (d .1 .0) (d .1 .1 .0) (e .0) (e .1 .0) (e .1 .1) in
+    (all, (d .0, (d .1 .0, (d .1 .1 .0, (d .1 .1 .1, e)))))
+
+pub evaluate-both-ways-spec : {M : Type 1} → statement M
+evaluate-both-ways-spec =
+    tie.close
+    (tie.spec
+    over-ends-requires
+    walk-requires
+    same-length
+    same-length-2
+    same-length-3
+    same-length-4
+    same-length-5
+    returns)

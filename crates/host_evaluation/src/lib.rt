@@ -1,0 +1,54 @@
+// host_evaluation
+use book::ElectedWords;
+use book::MovedWords;
+use evaluation_words::of_evaluation;
+use evaluation_words::settings_of;
+use path_words::last_price_of;
+use path_words::prints_of;
+ghost use mathlib.Core.List.{map};
+ghost use mathlib.Core.Path.{_≡_};
+ghost use lib.ListN.{length};
+ghost use Rattle.book.specs.Calls.{written};
+ghost use Rattle.listing.specs.Entries.{electedWords, movedWords};
+ghost use Rattle.host_words.specs.Answers.{Told, countsWords};
+ghost use Rattle.host_words.specs.ByWords.{segmentByWords, walkByWords};
+
+// A segment, which lists the elected and the moved, and answers how many moves and elected there were. Refused: 1, 14.
+pub fn segment(
+    s: &mut [u64],
+    settings: &[u64; 4],
+    prints: &[u64; 4],
+    elected: &mut [ElectedWords],
+    moved: &mut [MovedWords],
+    answer: &mut [u64; 2],
+) -> u64
+    ensures { λ r. ⌜ (let o = segmentByWords (now (settings .entry)) (now (prints .entry)) (now (s .entry)) (length (now (elected .entry)))
+        (length (now (moved .entry))) in
+        Told countsWords (o .answer) (now (answer .entry)) r (now (answer .exit))
+        × (now (s .exit) ≡ o .words)
+        × (now (elected .exit) ≡ written (map electedWords (o .elected)) (now (elected .entry)))
+        × (now (moved .exit) ≡ written (map movedWords (o .moved)) (now (moved .entry)))) ⌝ }
+{
+    let of = settings_of(settings);
+    let evaluated = evaluation::segment(s, of, prints_of(prints), elected, moved);
+    of_evaluation(evaluated, answer)
+}
+
+// A walk, which lists the elected, and answers how many moves and elected there were. Refused: 1, 14, 16.
+pub fn walk(
+    s: &mut [u64],
+    settings: &[u64; 4],
+    prev: &[u64; 2],
+    prices: &[u64],
+    elected: &mut [ElectedWords],
+    answer: &mut [u64; 2],
+) -> u64
+    ensures { λ r. ⌜ (let o = walkByWords (now (settings .entry)) (now (prev .entry)) (now (prices .entry)) (now (s .entry)) (length (now (elected .entry))) in
+        Told countsWords (o .answer) (now (answer .entry)) r (now (answer .exit))
+        × (now (s .exit) ≡ o .words)
+        × (now (elected .exit) ≡ written (map electedWords (o .elected)) (now (elected .entry)))) ⌝ }
+{
+    let of = settings_of(settings);
+    let evaluated = evaluation::walk(s, of, last_price_of(prev), prices, elected);
+    of_evaluation(evaluated, answer)
+}

@@ -1,0 +1,74 @@
+// host_terms
+use host_words::UNKNOWN;
+use path_words::flag;
+use pricelevel::Price;
+use term_answers::of_inconsistency;
+use term_answers::preview_words;
+use term_words::side_known;
+use term_words::terms_known;
+use term_words::terms_of;
+use term_words::terms_words;
+ghost use mathlib.Core.Path.{_≡_};
+ghost use Rattle.host_words.specs.Answers.{Told, flag, termsWords, previewWords};
+ghost use Rattle.host_words.specs.ByWords.{trailedByWords, electedByWords, inconsistencyByWords, previewByWords};
+
+// Answers the terms after a trade. Refused: 255.
+pub fn trailed(terms: &[u64; 4], price: u64, answer: &mut [u64; 4]) -> u64
+    ensures { λ r. ⌜ Told termsWords (trailedByWords (now (terms .entry)) price) (now (answer .entry)) r (now (answer .exit)) ⌝ }
+{
+    if !terms_known(terms) {
+        return UNKNOWN;
+    }
+    let of = terms_of(terms);
+    *answer = terms_words(of.trailed(Price(price)));
+    0
+}
+
+// Whether a trade elects the stop: 1 or 0; or 255.
+pub fn elected_by(terms: &[u64; 4], price: u64) -> u64
+    ensures { λ r. ⌜ r ≡ electedByWords (now (terms .entry)) price ⌝ }
+{
+    if !terms_known(terms) {
+        return UNKNOWN;
+    }
+    let of = terms_of(terms);
+    flag(of.elected_by(Price(price)))
+}
+
+// The inconsistency of the terms: 0 for none, a trail of zero (5), a stop on the wrong side of its watermark (6); or 255.
+pub fn inconsistency(terms: &[u64; 4]) -> u64
+    ensures { λ r. ⌜ r ≡ inconsistencyByWords (now (terms .entry)) ⌝ }
+{
+    if !terms_known(terms) {
+        return UNKNOWN;
+    }
+    let of = terms_of(terms);
+    of_inconsistency(of.inconsistency())
+}
+
+// Answers the preview of a trailing stop: the new stop and reference, if there are any. Refused: 255.
+pub fn calculate_trailing_stop_price(
+    side: u64,
+    current_stop_price: u64,
+    trail_amount: u64,
+    last_reference_price: u64,
+    current_market_price: u64,
+    answer: &mut [u64; 3],
+) -> u64
+    ensures { λ r. ⌜ Told previewWords
+        (previewByWords side «current_stop_price» «trail_amount» «last_reference_price» «current_market_price»)
+        (now (answer .entry)) r (now (answer .exit)) ⌝ }
+{
+    if !side_known(side) {
+        return UNKNOWN;
+    }
+    let next = repricing::calculate_trailing_stop_price(
+        stored_stops::side_from(side),
+        Price(current_stop_price),
+        trail_amount,
+        Price(last_reference_price),
+        Price(current_market_price),
+    );
+    *answer = preview_words(next);
+    0
+}

@@ -1,0 +1,58 @@
+// record_writer
+use book::RECORD_WORDS;
+use book::StopEntry;
+use records::write_record;
+ghost use mathlib.Core.Path.{_≡_};
+ghost use Prim.Native.Nat.{_-_};
+ghost use lib.Seq.{sets};
+ghost use Rattle.book.specs.Book.{vacant, held};
+ghost use Rattle.book.specs.Words.{cell, dataWords, withLinks};
+ghost use Rattle.chains.specs.Records.{Record};
+
+// The words of a free record, which another, or 0, follows in the free chain.
+fn free_words(next: u64) -> [u64; RECORD_WORDS]
+    ensures { λ r. ⌜ r ≡ withLinks (dataWords vacant) next 0 ⌝ }
+{
+    [0, 0, 0, 0, 0, 0, 0, 0, 0, next, 0]
+}
+
+// The words of a record that holds a stop and is linked to none.
+fn entry_words(t: StopEntry) -> [u64; RECORD_WORDS]
+    ensures { λ r. ⌜ r ≡ withLinks (dataWords (held t)) 0 0 ⌝ }
+{
+    let id = t.id;
+    let kind = id.kind;
+    let terms = t.terms;
+    let side = terms.side;
+    [
+        kind.number() as u64,
+        id.high,
+        id.low,
+        side.number() as u64,
+        terms.stop.0,
+        terms.watermark.0,
+        terms.trail,
+        t.quantity.0,
+        t.seq.0,
+        0,
+        0,
+    ]
+}
+
+// Writes record i as a free one.
+pub fn write_free(s: &mut [u64], n: u64, i: u64, next: u64)
+    requires { ⌜ Record n (now s) i ⌝ }
+    ensures { λ _. ⌜ now (s .exit) ≡ sets (now (s .entry)) (cell i 0) (withLinks (dataWords vacant) next 0) ⌝ }
+{
+    let words = free_words(next);
+    write_record(s, n, i, &words);
+}
+
+// Writes a stop to record i, which is then linked to none.
+pub fn write_entry(s: &mut [u64], n: u64, i: u64, t: StopEntry)
+    requires { ⌜ Record n (now s) i ⌝ }
+    ensures { λ _. ⌜ now (s .exit) ≡ sets (now (s .entry)) (cell i 0) (withLinks (dataWords (held t)) 0 0) ⌝ }
+{
+    let words = entry_words(t);
+    write_record(s, n, i, &words);
+}

@@ -1,0 +1,95 @@
+-- `segments::segment_points` meets its contract.
+use mathlib.Core.Path.{sym, _∙_}
+use native.Mathlib.Omega.{arith}
+use Rattle.points.proofs.Pointing.{room-left, point-few}
+use Rattle.segments.proofs.Segmenting.{segment-one, segment-two}
+use borrow.Author.Needs.{needs}
+use Rattle.segments.proofs.segment_points.Statement.{statement}
+use Rattle.segments.proofs.segment_points.Tie as tie
+
+falls-to-requires : tie.Need-falls-to-requires
+falls-to-requires c κs = search needs
+
+sells-first-requires : tie.Need-sells-first-requires
+sells-first-requires c κs = search needs
+
+point-requires : tie.Need-point-requires
+point-requires c κs = search needs
+
+second-point-requires : tie.Need-second-point-requires
+second-point-requires c κs = search needs
+
+enum-known-end : tie.Need-enum-known-end
+enum-known-end c = search needs
+
+enum-told : tie.Need-enum-told
+enum-told c = search needs
+
+same-length : tie.Need-same-length
+same-length c = search needs
+
+same-length-2 : tie.Need-same-length-2
+same-length-2 c = search needs
+
+returns : tie.Need-returns
+returns c =
+    let q = c .before .before in
+    let p = q .before .before .before .before in
+    let f = p .before .before in
+    segment-one _ _ _ _ _ _ _ (rw (f .sells-first .ensures, f .before .before .falls-to .ensures) at (p .point .ensures))
+    (sym (c .enum-told .given .1) ∙ q .second-point .ensures)
+
+sells-first-requires-2 : tie.Need-sells-first-requires-2
+sells-first-requires-2 c κs = search needs
+
+point-requires-2 : tie.Need-point-requires-2
+point-requires-2 c κs =
+    let p = c .before .before .before .before .before .before .before .before .before .before in
+    let (b, r, st, room) = p .before .before .before .before .before .before .before .before .pre in
+    (_, r, p .point .ensures b r st .3, rw (p .point .kept .1 .1 .1 .1 .1 .0) (room-left _ _ _ _ _ _ _ _ (p .point .ensures) st _ room))
+
+add-t26 : tie.Need-add-t26
+add-t26 c =
+    let t = c .before .before .before .before .before in
+    let p = t .before .before .before .before .before .before .before .before .before .before .before in
+    let (b, r, st, room) = p .before .before .before .before .before .before .before .before .pre in
+    let one = point-few _ _ _ _ _ _ _ _ (p .point .ensures) st in
+    record { fits = omega (arith, one, point-few _ _ _ _ _ _ _ _ (t .point2 .ensures) (p .point .ensures b r st .3)) }
+
+same-length-3 : tie.Need-same-length-3
+same-length-3 c = search needs
+
+same-length-4 : tie.Need-same-length-4
+same-length-4 c = search needs
+
+returns-2 : tie.Need-returns-2
+returns-2 c =
+    let t = c .before .before .before .before .before in
+    let g = t .before .before .before in
+    let e = g .before .before in
+    let q = e .before .before in
+    let p = q .before .before .before .before in
+    let f = p .before .before in
+    let falls = f .before .before .falls-to .ensures in
+    segment-two _ _ _ _ _ _ _ (rw (f .sells-first .ensures, falls) at (p .point .ensures)) _ (sym (e .end .given .1) ∙ q .second-point .ensures) _ _ _
+    (rw (g .sells-first2 .ensures, falls) at (t .point2 .ensures))
+
+pub segment-points-spec : {M : Type 1} → statement M
+segment-points-spec =
+    tie.close
+    (tie.spec
+    falls-to-requires
+    sells-first-requires
+    point-requires
+    second-point-requires
+    enum-known-end
+    enum-told
+    same-length
+    same-length-2
+    returns
+    sells-first-requires-2
+    point-requires-2
+    add-t26
+    same-length-3
+    same-length-4
+    returns-2)

@@ -1,0 +1,129 @@
+// stored_stops
+use book::Chain;
+use book::NEXT_BY_STOP;
+use book::StopEntry;
+use pricelevel::Id;
+use pricelevel::IdKind;
+use pricelevel::Price;
+use pricelevel::Quantity;
+use pricelevel::Seq;
+use pricelevel::Side;
+use records::cell;
+use records::head_of;
+use records::word;
+use stop_terms::StopTerms;
+ghost use mathlib.Core.Path.{_≡_};
+ghost use mathlib.Core.Bool.{true};
+ghost use mathlib.Core.List.{List};
+ghost use Prim.Native.Nat.{ℕ, _-_};
+ghost use lib.ListN.{getD};
+ghost use Rattle.book.specs.Store.{lookup};
+ghost use Rattle.book.specs.Words.{cell, kindOf, sideFrom, entryAt, bookOf, wellFormed};
+ghost use Rattle.book.specs.Sizes.{nextByStop};
+ghost use Rattle.chains.specs.Links.{Linked, Walk};
+ghost use Rattle.chains.specs.Records.{Record};
+ghost use Rattle.store_words.specs.Search.{firstNamed, indexOr0};
+
+// What a kind's word stands for.
+pub fn kind_of(k: u64) -> IdKind
+    ensures { λ r. ⌜ r ≡ kindOf k ⌝ }
+{
+    match k {
+        0 => IdKind::Uuid,
+        1 => IdKind::Ulid,
+        _ => IdKind::Sequential,
+    }
+}
+
+// What a side's word stands for.
+pub fn side_from(k: u64) -> Side
+    ensures { λ r. ⌜ r ≡ sideFrom k ⌝ }
+{
+    match k {
+        0 => Side::Buy,
+        _ => Side::Sell,
+    }
+}
+
+// The identity in record i.
+fn id_at(s: &[u64], n: u64, i: u64) -> Id
+    requires { ⌜ Record n (now s) i ⌝ }
+    ensures { λ r. ⌜ r ≡ entryAt (now (s .entry)) i .id ⌝ }
+{
+    let kind = kind_of(word(s, n, i, 0));
+    let high = word(s, n, i, 1);
+    let low = word(s, n, i, 2);
+    Id {
+        kind: kind,
+        high: high,
+        low: low,
+    }
+}
+
+// The terms in record i.
+pub fn terms_at(s: &[u64], n: u64, i: u64) -> StopTerms
+    requires { ⌜ Record n (now s) i ⌝ }
+    ensures { λ r. ⌜ r ≡ entryAt (now (s .entry)) i .terms ⌝ }
+{
+    let side = side_from(word(s, n, i, 3));
+    let stop = word(s, n, i, 4);
+    let watermark = word(s, n, i, 5);
+    let trail = word(s, n, i, 6);
+    StopTerms {
+        side: side,
+        stop: Price(stop),
+        watermark: Price(watermark),
+        trail: trail,
+    }
+}
+
+// The stop in record i.
+pub fn entry_at(s: &[u64], n: u64, i: u64) -> StopEntry
+    requires { ⌜ Record n (now s) i ⌝ }
+    ensures { λ r. ⌜ r ≡ entryAt (now (s .entry)) i ⌝ }
+{
+    let id = id_at(s, n, i);
+    let terms = terms_at(s, n, i);
+    let quantity = word(s, n, i, 7);
+    let seq = word(s, n, i, 8);
+    StopEntry {
+        id: id,
+        terms: terms,
+        quantity: Quantity(quantity),
+        seq: Seq(seq),
+    }
+}
+
+// The first record with this identity in the stop chain that the word at head starts; 0 for none. What is left is a measure for the
+// proof: it never ends the walk.
+fn find_from(s: &[u64], n: u64, head: usize, id: Id) -> u64
+    requires { ⌜ ((l : List ℕ) × Walk n (now s) nextByStop head l) ⌝ }
+    ensures { λ r. ⌜ ((l : List ℕ) → Linked n (now (s .entry)) nextByStop head l → r ≡ firstNamed (now (s .entry)) id l) ⌝ }
+{
+    let mut p = head;
+    let mut left = n;
+    loop {
+        let i = s[p];
+        if i == 0 {
+            return 0;
+        }
+        let here = id_at(s, n, i);
+        if id.eq(here) {
+            return i;
+        }
+        p = cell(i, NEXT_BY_STOP);
+        left = left - 1;
+    }
+}
+
+// The record that holds an identity: along the sell stop chain, then the buy stop chain; 0 for none.
+pub fn find_id(s: &[u64], n: u64, id: Id) -> u64
+    requires { ⌜ (wellFormed (now s) ≡ true) × (n ≡ getD (now s) 0 0) ⌝ }
+    ensures { λ r. ⌜ r ≡ indexOr0 (lookup id (bookOf (now (s .entry)))) ⌝ }
+{
+    let sell = find_from(s, n, head_of(Chain::ByStop(Side::Sell)), id);
+    if sell != 0 {
+        return sell;
+    }
+    find_from(s, n, head_of(Chain::ByStop(Side::Buy)), id)
+}
