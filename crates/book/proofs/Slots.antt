@@ -12,12 +12,15 @@ use lib.Dec.{eqb, ltb}
 use lib.ListN.{getD}
 use Rattle.pricelevel.specs.Identity.{kindNumber}
 use Rattle.pricelevel.specs.Side.{sideNumber}
+use Rattle.pricelevel.specs.declared.IdKind.the-variants.{Uuid, Ulid, Sequential}
 use Rattle.pricelevel.specs.declared.Side.the-variants.{Buy, Sell}
 use Rattle.book.specs.Lists.{All}
 use Rattle.book.specs.Valid.{SlotFits}
 use Rattle.book.specs.Book.{Slot, vacant, held}
 use Rattle.book.specs.Words.{cell, recordWord, kindOf, sideFrom, entryAt, slotAt, slotsAt, consistent}
 use Rattle.book.specs.declared.StopEntry.{StopEntry}
+use Rattle.pricelevel.specs.declared.IdKind.{IdKind}
+use Rattle.pricelevel.specs.declared.Side.{Side}
 
 pub slotAt-vacant : (w : List ℕ) (i : ℕ) → recordWord w i 7 ≡ 0 → slotAt w i ≡ vacant
 unfolding slotAt
