@@ -17,7 +17,7 @@ use Rattle.book.specs.Valid.{SlotFits, Valid}
 use Rattle.book.proofs.WellFormed.{IsWord, WellFormed, bookOf-slots-length, wellFormed-parts, wellFormed-of, wellFormed-valid, wellFormed-layout}
 use Rattle.book.specs.Book.{Slot, vacant, chainSide, pendingCount}
 use Rattle.book.specs.Lists.{headOr0, every, rising, All}
-use Rattle.book.specs.Words.{nextIn, chainIndices, header, recordWords, layout, recordWord, slotAt, slotsAt, bookOf, soundStop, allDiffer, wellFormed, dataWords, afterByStop, afterByWatermark, withLinks}
+use Rattle.book.specs.Words.{nextIn, chainIndices, header, recordWords, layout, recordWord, slotAt, slotsAt, bookOf, soundStop, allDiffer, wellFormed, dataWords, afterByStop, afterByWatermark, withLinks, cell}
 use Rattle.book.specs.Sizes.{headerLength, recordLength, mostRecords, storeLength, nextByStop}
 use Rattle.book.specs.declared.Chain.{Chain}
 use Rattle.book.specs.declared.Chain.the-variants.{ByStop, ByWatermark}
@@ -108,6 +108,7 @@ formed-of w f =
 
 module _ (w : List ℕ) (words : (p : ℕ) → IsWord (getD w p 0)) where
   fits : All SlotFits (slotsIn w)
+  unfolding recordWord
   fits = slotsAt-all SlotFits w 1 (getD w 0 0) (λ j low high. slotAt-fits w j (λ k h. words (cell j k)))
 
   chain-list : (c : Chain) → chainIndices c (bookOf w) ≡ ordered c (slotsIn w)

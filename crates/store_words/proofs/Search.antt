@@ -30,6 +30,7 @@ use Rattle.book.specs.Chains.{headOf}
 use Rattle.store_words.specs.Search.{firstNamed, indexOr0}
 use Rattle.book.specs.Sizes.{nextByStop, storeLength}
 use Rattle.store_words.proofs.ChainsOf.{wellFormed-room, wellFormed-linked}
+use Rattle.book.proofs.Slots.{slotAt-entry, slotsAt-at}
 
 ------------------------------------------------------------------------
 -- One link
