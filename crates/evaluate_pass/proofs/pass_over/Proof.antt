@@ -1,12 +1,12 @@
--- `evaluation::pass_over` meets its contract.
+-- `evaluate_pass::pass_over` meets its contract.
 use native.Mathlib.Omega.{arith}
 use Rattle.book.specs.Words.{bookOf}
 use Rattle.pending_stops.proofs.Finding.{beyond, wellFormed-stored}
 use Rattle.store_words.proofs.ChainsOf.{wellFormed-room}
 use Rattle.evaluation.proofs.Passes.{pass-formed, pass-elected, pass-script, passed-done}
 use borrow.Author.Needs.{needs}
-use Rattle.evaluation.proofs.pass_over.Statement.{statement}
-use Rattle.evaluation.proofs.pass_over.Tie as tie
+use Rattle.evaluate_pass.proofs.pass_over.Statement.{statement}
+use Rattle.evaluate_pass.proofs.pass_over.Tie as tie
 
 slice-read-n : tie.Need-slice-read-n
 slice-read-n c =

@@ -1,14 +1,14 @@
--- `evaluation::run_stop_triggers` meets its contract: refused by a question, idle, or the pass over the segment that it takes.
+-- `stop_run::run_stop_triggers` meets its contract: refused by a question, idle, or the pass over the segment that it takes.
 use native.Mathlib.Omega.{arith}
 use mathlib.Core.Path.{sym, ap}
 use Rattle.error.proofs.Verdicts.{all-yes, one-no}
 use Rattle.store_words.proofs.ChainsOf.{wellFormed-room}
 use Rattle.print_path.specs.Segments.{toldNext}
 use Rattle.book.specs.Answers.{toldPass}
 use Rattle.evaluation.proofs.Passes.{pass-formed, run-refused, run-idle, run-taken}
 use borrow.Author.Needs.{needs}
-use Rattle.evaluation.proofs.run_stop_triggers.Statement.{statement}
-use Rattle.evaluation.proofs.run_stop_triggers.Tie as tie
+use Rattle.stop_run.proofs.run_stop_triggers.Statement.{statement}
+use Rattle.stop_run.proofs.run_stop_triggers.Tie as tie
 
 ask-pass-requires : tie.Need-ask-pass-requires
 ask-pass-requires c κs = search needs

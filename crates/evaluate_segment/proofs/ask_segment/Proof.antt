@@ -1,4 +1,4 @@
--- `evaluation::ask_segment` meets its contract: question by question, after that of the form.
+-- `evaluate_segment::ask_segment` meets its contract: question by question, after that of the form.
 use mathlib.Core.Path.{refl, sym, _∙_}
 use native.Mathlib.Omega.{arith}
 use borrow.Author.Needs.{needs}
@@ -7,9 +7,9 @@ use Rattle.error.proofs.Questions.{asked-next, asked-both, asked-first, first-n
 use Rattle.error.specs.Verdict.{toldVerdict}
 use Rattle.book.specs.Calls.{segmentQuestions}
 use Rattle.store_words.proofs.ChainsOf.{wellFormed-room}
 use Rattle.evaluation.proofs.Asking.{count-word, count-few}
-use Rattle.evaluation.proofs.ask_segment.Statement.{statement}
-use Rattle.evaluation.proofs.ask_segment.Tie as tie
+use Rattle.evaluate_segment.proofs.ask_segment.Statement.{statement}
+use Rattle.evaluate_segment.proofs.ask_segment.Tie as tie
 
 returns : tie.Need-returns
 unfolding toldVerdict segmentQuestions

@@ -1,11 +1,11 @@
--- `evaluation::evaluate_pending_stops` meets its contract: refused by a question, or its pass.
+-- `evaluate_pass::evaluate_pending_stops` meets its contract: refused by a question, or its pass.
 use mathlib.Core.Path.{sym}
 use Rattle.error.proofs.Verdicts.{all-yes, one-no}
 use Rattle.book.specs.Answers.{toldPass}
 use Rattle.evaluation.proofs.Passes.{pass-refused, pass-accepted-as}
 use borrow.Author.Needs.{needs}
-use Rattle.evaluation.proofs.evaluate_pending_stops.Statement.{statement}
-use Rattle.evaluation.proofs.evaluate_pending_stops.Tie as tie
+use Rattle.evaluate_pass.proofs.evaluate_pending_stops.Statement.{statement}
+use Rattle.evaluate_pass.proofs.evaluate_pending_stops.Tie as tie
 
 ask-pass-requires : tie.Need-ask-pass-requires
 ask-pass-requires c κs = search needs

@@ -1,4 +1,4 @@
--- `evaluation::segment` meets its contract: refused by a question, or its points and then its entries completed.
+-- `evaluate_segment::segment` meets its contract: refused by a question, or its points and then its entries completed.
 use native.Mathlib.Omega.{arith}
 use Rattle.error.proofs.Verdicts.{all-yes, one-no}
 use Rattle.book.specs.Evaluation.{segment}
@@ -6,11 +6,11 @@ use Rattle.book.specs.Words.{bookOf}
 use Rattle.pending_stops.proofs.Finding.{beyond, wellFormed-stored}
 use Rattle.store_words.proofs.ChainsOf.{wellFormed-room}
 use Rattle.book.specs.Answers.{toldCounts}
 use Rattle.evaluation.proofs.Asking.{segment-formed, segment-room}
 use Rattle.evaluation.proofs.Outcomes.{from-start, segment-refused, segment-within, segment-done}
 use borrow.Author.Needs.{needs}
-use Rattle.evaluation.proofs.segment.Statement.{statement}
-use Rattle.evaluation.proofs.segment.Tie as tie
+use Rattle.evaluate_segment.proofs.segment.Statement.{statement}
+use Rattle.evaluate_segment.proofs.segment.Tie as tie
 
 ask-segment-requires : tie.Need-ask-segment-requires
 ask-segment-requires c κs = search needs

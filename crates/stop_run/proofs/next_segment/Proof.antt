@@ -1,9 +1,9 @@
--- `evaluation::next_segment` meets its contract.
+-- `stop_run::next_segment` meets its contract.
 use Rattle.print_path.specs.Segments.{toldNext}
 use Rattle.evaluation.proofs.Passes.{taken-segment}
 use borrow.Author.Needs.{needs}
-use Rattle.evaluation.proofs.next_segment.Statement.{statement}
-use Rattle.evaluation.proofs.next_segment.Tie as tie
+use Rattle.stop_run.proofs.next_segment.Statement.{statement}
+use Rattle.stop_run.proofs.next_segment.Tie as tie
 
 returns : tie.Need-returns
 unfolding toldNext

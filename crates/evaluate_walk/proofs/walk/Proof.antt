@@ -1,4 +1,4 @@
--- `evaluation::walk` meets its contract: refused by a question, or its points and then its entries completed.
+-- `evaluate_walk::walk` meets its contract: refused by a question, or its points and then its entries completed.
 use native.Mathlib.Omega.{arith}
 use mathlib.Core.List.{map}
 use lib.ListN.{length-map}
@@ -9,11 +9,11 @@ use Rattle.pending_stops.proofs.Finding.{beyond, wellFormed-stored}
 use Rattle.pricelevel.specs.Price.{toPrice}
 use Rattle.store_words.proofs.ChainsOf.{wellFormed-room}
 use Rattle.book.specs.Answers.{toldCounts}
 use Rattle.evaluation.proofs.Asking.{walk-formed, walk-room, walk-prices}
 use Rattle.evaluation.proofs.Outcomes.{from-start, walk-refused, walk-within, walk-done}
 use borrow.Author.Needs.{needs}
-use Rattle.evaluation.proofs.walk.Statement.{statement}
-use Rattle.evaluation.proofs.walk.Tie as tie
+use Rattle.evaluate_walk.proofs.walk.Statement.{statement}
+use Rattle.evaluate_walk.proofs.walk.Tie as tie
 
 ask-walk-requires : tie.Need-ask-walk-requires
 ask-walk-requires c κs = search needs
