@@ -1,2 +1,2 @@
-pub mod Admitting
-pub mod Asking
+pub mod Admission
+pub mod AdmissionQuestions

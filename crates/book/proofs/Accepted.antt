@@ -14,7 +14,7 @@ use Rattle.pricelevel.specs.declared.Id.{Id}
 use Rattle.pricelevel.specs.declared.Quantity.{Quantity}
 use Rattle.pricelevel.specs.declared.Seq.{Seq}
 use Rattle.stop_terms.specs.declared.StopTerms.{StopTerms}
-use Rattle.book.proofs.Changing.{UpdateFits, change-changeable, changed-valid, changed-fits, changed-length}
+use Rattle.book.proofs.ChangedBook.{UpdateFits, change-changeable, changed-valid, changed-fits, changed-length}
 use Rattle.book.proofs.Lookup.{lookup-found}
 use Rattle.book.proofs.Operations.{admission-admissible, admitted-valid, admitted-fits, admitted-length, emptyBook-valid, emptyBook-fits, emptyBook-length, vacated-valid, vacated-fits, vacated-length}
 use Rattle.book.proofs.Questions.{firstNo-none, decide-outcomes}

@@ -10,9 +10,9 @@ use lib.ListN.{getD}
 use Rattle.error.specs.Answer.{accepted}
 use Rattle.pricelevel.specs.declared.Price.{Price}
 use Rattle.book.proofs.Accepted.{Accepted, decide-accepted, book-stored}
-use Rattle.book.proofs.Evaluating.{Kept, PriceFits, PointsAt, segment-points, walk-points, points-valid, points-fits, points-kept, points-count, SegmentFits, segmentPrices-fits}
+use Rattle.book.proofs.Walks.{Kept, PriceFits, PointsAt, segment-points, walk-points, points-valid, points-fits, points-kept, points-count, SegmentFits, segmentPrices-fits}
 use Rattle.book.specs.Lists.{All}
-use Rattle.book.proofs.Passing.{pass-valid, pass-fits, pass-kept, pass-count}
+use Rattle.book.proofs.Passes.{pass-valid, pass-fits, pass-kept, pass-count}
 use Rattle.book.proofs.Questions.{firstNo-none}
 use Rattle.book.specs.Valid.{Valid, Fits}
 use Rattle.book.proofs.WellFormed.{IsWord, Stored}

@@ -7,7 +7,7 @@ use native.Mathlib.Omega.{arith}
 use lib.Dec.{ltb}
 use lib.ListN.{length, getD}
 use Rattle.book.proofs.Lists.{all-map}
-use Rattle.book.proofs.Sorting.{Distinct, sortBy-parts, sortBy-length, sortBy-pairwise-parts}
+use Rattle.book.proofs.Sort.{Distinct, sortBy-parts, sortBy-length, sortBy-pairwise-parts}
 use Rattle.book.specs.Valid.{Valid}
 use Rattle.book.specs.Book.{Slot, vacant, held, Book, pendingCount}
 use Rattle.book.specs.Lists.{All}

@@ -11,7 +11,7 @@ use Rattle.pricelevel.specs.declared.Side.the-variants.{Buy, Sell}
 use Rattle.book.proofs.FreeChain.{VacantFrom, free-all-vacant, free-distinct}
 use Rattle.book.proofs.Lists.{all-map, all-mapped}
 use Rattle.book.proofs.Lookup.{Gathered, gather-gathered, gather-all, pendingOn-held, held-pendingOn}
-use Rattle.book.proofs.Sorting.{Pairwise, Distinct, sortBy-all, sortBy-length, sortBy-pairwise}
+use Rattle.book.proofs.Sort.{Pairwise, Distinct, sortBy-all, sortBy-length, sortBy-pairwise}
 use Rattle.book.specs.Book.{Slot, vacant, held, Book, Chain, chainSide, Pending, sideOf, withIndex, gather, ofSide, pendingOn, chain, indices, earlierIn}
 use Rattle.book.specs.Chains.{StoreChain, Ordered, Free, Member, chainsOf}
 use Rattle.book.specs.Lists.{All}

@@ -11,12 +11,12 @@ use Rattle.pricelevel.specs.Tick.{onTick}
 use Rattle.pricelevel.specs.declared.Id.{Id}
 use Rattle.pricelevel.specs.declared.Quantity.{Quantity}
 use Rattle.stop_terms.specs.declared.StopTerms.{StopTerms}
-use Rattle.book.proofs.Differing.{SlotsDiffer, slotsDiffer-vacant, allDiffer-set, new-slotsDiffer}
+use Rattle.book.proofs.Differences.{SlotsDiffer, slotsDiffer-vacant, allDiffer-set, new-slotsDiffer}
 use Rattle.book.proofs.FreeChain.{pendingCount-vacant}
 use Rattle.book.proofs.Lists.{all-map, all-of, all-map-both, all-set, all-replicate}
 use Rattle.book.proofs.Lookup.{InBook, lookup-none, isPending-none}
 use Rattle.book.proofs.Questions.{firstNo-none}
-use Rattle.book.proofs.Rising.{Taken, vacantIndices-rising, vacantIndices-empty, vacantIndices-vacated, vacantIndices-taken, pendingCount-set}
+use Rattle.book.proofs.VacantIndices.{Taken, vacantIndices-rising, vacantIndices-empty, vacantIndices-vacated, vacantIndices-taken, pendingCount-set}
 use Rattle.book.proofs.Soundness.{sound-of, sound-later, consistent-of}
 use Rattle.book.specs.Valid.{Admissible, Valid, StopFits, SlotFits, Fits}
 use Rattle.book.specs.Book.{Slot, vacant, held, Book, Pending, seqOf, pendingCount}

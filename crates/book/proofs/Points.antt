@@ -13,7 +13,7 @@ use Rattle.pricelevel.specs.declared.Side.the-variants.{Buy, Sell}
 use Rattle.stop_terms.specs.Terms.{behind}
 use Rattle.stop_terms.proofs.Terms.{behind-irrefl, past-trans}
 use Rattle.book.proofs.Lists.{all-map, all-mapped, map-agree}
-use Rattle.book.proofs.Parting.{Part, never, parted, Met, Unmet, stops-apart, part-early, part-late}
+use Rattle.book.proofs.SortedParts.{Part, never, parted, Met, Unmet, stops-apart, part-early, part-late}
 use Rattle.book.proofs.Stops.{Trails, trailed-still, trailed-keeps, trailed-again, leaves-not-behind, waits-behind, leaves-further, Settled, trailed-settled, trailed-stays}
 use Rattle.book.specs.Book.{Slot, vacant, held, Book, ByStop, sideOf, watermarkOf, Pending, withIndex, gather, sort, ofSide}
 use Rattle.book.specs.Evaluation.{trailed, leaves, vacatedIf, settled, leavingOn, leaver, electedOn, electedBy, freed, point}

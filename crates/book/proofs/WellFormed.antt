@@ -20,7 +20,7 @@ use Rattle.book.proofs.ChainIndices.{headOr0-all, nextIn-all, chainIndi
 use Rattle.book.proofs.FreeChain.{VacantFrom, pendingCount-vacant, free-all-vacant}
 use Rattle.book.proofs.Lists.{all-map, all-append, all-getD, every-all, all-every, sameList-equal, sameList-refl}
 use Rattle.book.proofs.Places.{layout-length, layout-count}
-use Rattle.book.proofs.Reading.{slotsAt-length, bookOf-layout}
+use Rattle.book.proofs.ReadBack.{slotsAt-length, bookOf-layout}
 use Rattle.book.proofs.Validity.{valid-parts, valid-of}
 use Rattle.book.specs.Valid.{Valid, SlotFits, Fits}
 use Rattle.book.specs.Book.{Slot, vacant, held, Book, Chain, ByStop, ByWatermark, sideOf}

@@ -12,10 +12,10 @@ use Rattle.book.specs.Words.{cell, recordWord}
 use Rattle.book.specs.Sizes.{recordLength, IsData, nextByWatermark}
 use Rattle.chains.proofs.Cells.{cell-least, cell-below, cell-injective}
 use Rattle.chains.proofs.Kept.{IsLink, isLink-head, isLink-cell, kept-set, kept-trans}
-use Rattle.chains.proofs.Linking.{Apart, place-all, spot-all, linked-records, linked-set, link-first, link-in, link-out}
+use Rattle.chains.proofs.OneChain.{Apart, place-all, spot-all, linked-records, linked-set, link-first, link-in, link-out}
 use Rattle.chains.proofs.Members.{has-here, has-there, has-cases, has-all, all-has, has-remove}
 use Rattle.chains.proofs.Names.{name-stands, head-injective, name-injective, watermark-group, upd-all}
-use Rattle.chains.proofs.Sorting.{has-insertRanked}
+use Rattle.chains.proofs.RankedSort.{has-insertRanked}
 use Rattle.chains.specs.Chained.{Chained, Kept, Outside, Ready, upd}
 use Rattle.book.specs.Chains.{startOf, nextOf, groupOf}
 use Rattle.book.specs.declared.StoreChain.{StoreChain}

@@ -1,5 +1,5 @@
 -- A chain of links: no record is there twice, and its words are the heads and links of a list.
-use Rattle.chains.proofs.Linking.{linked-distinct}
+use Rattle.chains.proofs.OneChain.{linked-distinct}
 use Prim.Native.Nat.{ℕ, zero, suc, _≤_}
 use native.Mathlib.Omega.{arith}
 use mathlib.Core.Path.{_≡_, refl, sym, ap, _∙_}
@@ -7,9 +7,9 @@ use mathlib.Core.Logic.{_≢_}
 use mathlib.Core.List.{List, [], _∷_}
 use borrow.Author.Tests.{eq-eqb, ne-eqb}
 use lib.ListN.{length, getD}
-use Rattle.book.proofs.Sorting.{Distinct}
+use Rattle.book.proofs.Sort.{Distinct}
 use Rattle.book.proofs.Lists.{all-map-both}
-use Rattle.book.proofs.Reading.{nextIn-here, nextIn-there}
+use Rattle.book.proofs.ReadBack.{nextIn-here, nextIn-there}
 use Rattle.book.specs.Lists.{headOr0, All}
 use Rattle.book.specs.Words.{nextIn, cell, recordWord, freeFrom}
 use Rattle.chains.specs.Links.{Linked}

@@ -9,7 +9,7 @@ use borrow.Author.Tests.{eqb-true, eqb-false, eq-eqb, ne-eqb}
 use borrow.Table.Steps.{cases}
 use lib.Dec.{T, eqb}
 use lib.ListN.{length}
-use Rattle.book.proofs.Sorting.{Distinct}
+use Rattle.book.proofs.Sort.{Distinct}
 use Rattle.book.specs.Lists.{All}
 use Rattle.chains.specs.Indices.{remove, has}
 

@@ -10,7 +10,7 @@ use lib.ListN.{length, getD}
 use Rattle.pricelevel.specs.declared.Side.{Side}
 use Rattle.pricelevel.specs.declared.Side.the-variants.{Buy, Sell}
 use Rattle.book.proofs.Members.{members, gathered-held}
-use Rattle.book.proofs.Sorting.{insert, sortBy-all}
+use Rattle.book.proofs.Sort.{insert, sortBy-all}
 use Rattle.book.proofs.Lists.{all-map, all-getD, all-mapped}
 use Rattle.book.proofs.Lookup.{Gathered, gather-gathered}
 use Rattle.book.specs.Valid.{StopFits, SlotFits}

@@ -1,4 +1,4 @@
-// change_words
+// The words of a change and of an admission: whether each value is known, and what they stand for.
 use book::OrderUpdate;
 use path_words::path_known;
 use pricelevel::Price;

@@ -1,1 +1,1 @@
-pub mod Updating
+pub mod Changes

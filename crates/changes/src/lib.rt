@@ -1,4 +1,5 @@
-// changes
+// The change of a pending stop, from orderbook-rs's stop_orders.rs: its questions in their order, then one operation; a refused call
+// alters nothing.
 use admission::not_triggered;
 use admission::within_watermark;
 use book::LastPrice;

@@ -1,1 +1,1 @@
-pub mod Completing
+pub mod Completed

@@ -1,4 +1,4 @@
-// children
+// What an elected entry gets once its stop has left: the protection limit, the child's identity, and whether that identity is pending.
 use book::ElectedWords;
 use book::Settings;
 use pricelevel::Id;

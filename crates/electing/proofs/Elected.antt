@@ -13,7 +13,7 @@ use Rattle.stop_terms.proofs.Terms.{elects-past}
 use Rattle.stop_terms.specs.Terms.{electedAt}
 use Rattle.book.proofs.Lists.{all-of}
 use Rattle.book.proofs.Lookup.{chain-in-book}
-use Rattle.book.proofs.Parting.{Part, never, Parted, parted, Met, Unmet, stops-apart, part-early, part-late}
+use Rattle.book.proofs.SortedParts.{Part, never, Parted, parted, Met, Unmet, stops-apart, part-early, part-late}
 use Rattle.book.specs.Steps.{elect, electedIn, vacatedBy, stays, takenOn}
 use Rattle.book.specs.Valid.{Fits}
 use Rattle.book.specs.Book.{Slot, vacant, held, Book, chainSide, Pending, sideOf, ofSide, pendingOn, chain, indices}

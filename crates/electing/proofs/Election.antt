@@ -16,14 +16,14 @@ use Rattle.chains.proofs.Chained.{chained-set-header}
 use Rattle.chains.specs.Chained.{Chained, Kept, upd}
 use Rattle.book.specs.declared.StoreChain.{StoreChain}
 use Rattle.book.specs.declared.StoreChain.the-variants.{Ordered}
-use Rattle.pending_stops.proofs.Holding.{stored-holds, holds-stored}
+use Rattle.pending_stops.proofs.Contents.{stored-holds, holds-stored}
 use Rattle.book.specs.Chains.{chainsOf}
-use Rattle.pending_stops.proofs.Storing.{contents-kept, contents-numbers, contents-count, contents-entry}
+use Rattle.pending_stops.proofs.StoredWords.{contents-kept, contents-numbers, contents-count, contents-entry}
 use Rattle.pending_stops.specs.Stored.{Stored}
 use Rattle.chains.proofs.Names.{upd-same}
 use Rattle.electing.proofs.Heads.{none-first}
-use Rattle.electing.proofs.Staying.{taken-none, taken-again}
-use Rattle.electing.proofs.Taking.{taken-count}
+use Rattle.electing.proofs.Remainder.{taken-none, taken-again}
+use Rattle.electing.proofs.Departures.{taken-count}
 use Rattle.electing.proofs.Unelected.{Entries, unelected-taken}
 use Rattle.electing.specs.Elected.{firstElected, unelected, Dropped}
 

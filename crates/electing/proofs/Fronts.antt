@@ -4,13 +4,13 @@ use native.Mathlib.Omega.{arith}
 use mathlib.Core.Path.{_≡_, refl, sym, ap, fun-ext, _∙_}
 use mathlib.Core.List.{List, [], _∷_, _++_}
 use lib.Dec.{T}
-use Rattle.book.proofs.Sorting.{Distinct}
+use Rattle.book.proofs.Sort.{Distinct}
 use Rattle.book.specs.Words.{cell}
 use Rattle.book.specs.Sizes.{storeLength}
 use Rattle.chains.proofs.Cells.{cell-below}
 use Rattle.chains.proofs.Chained.{kept-out, chained-out}
 use Rattle.book.proofs.Lists.{all-map, all-append-parts}
-use Rattle.chains.proofs.Linking.{linked-distinct, linked-records, wordAfter-all, linked-after, spot-after}
+use Rattle.chains.proofs.OneChain.{linked-distinct, linked-records, wordAfter-all, linked-after, spot-after}
 use Rattle.chains.proofs.Members.{has-here, has-back, remove-after, distinct-front}
 use Rattle.chains.proofs.Names.{name-stands, upd-here, upd-twice}
 use Rattle.chains.specs.Chained.{Chained, Kept, upd}

@@ -25,8 +25,8 @@ use Rattle.chains.specs.Links.{Linked}
 use Rattle.chains.specs.Records.{Record}
 use Rattle.pending_stops.proofs.ChainChanges.{chain-member}
 use Rattle.pending_stops.specs.Stored.{Contents}
-use Rattle.pending_stops.proofs.Storing.{contents-entry}
-use Rattle.chains.proofs.Linking.{linked-from}
+use Rattle.pending_stops.proofs.StoredWords.{contents-entry}
+use Rattle.chains.proofs.OneChain.{linked-from}
 use Rattle.electing.proofs.Elected.{First, first-unelected, none-elected}
 use Rattle.electing.specs.Elected.{electedOr0, firstElected}
 

@@ -1,10 +1,10 @@
-pub mod Dropping
+pub mod DropPass
 pub mod Elected
 pub mod Election
 pub mod Fronts
 pub mod Heads
-pub mod Leaving
-pub mod Staying
-pub mod Taking
+pub mod Departure
+pub mod Remainder
+pub mod Departures
 pub mod Turns
 pub mod Unelected

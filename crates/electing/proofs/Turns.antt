@@ -22,12 +22,12 @@ use Rattle.book.specs.declared.StoreChain.{StoreChain}
 use Rattle.book.specs.declared.StoreChain.the-variants.{Ordered}
 use Rattle.chains.specs.Indices.{has}
 use Rattle.chains.specs.Records.{Record}
-use Rattle.pending_stops.proofs.Storing.{recordOf}
+use Rattle.pending_stops.proofs.StoredWords.{recordOf}
 use Rattle.electing.proofs.Elected.{First}
 use Rattle.electing.proofs.Heads.{none-first, some-first}
-use Rattle.electing.proofs.Leaving.{droppedWithout, TakenOut, Pushed, dropped-linked, in-stops, record1, ready2, blank2, left-dropped}
-use Rattle.electing.proofs.Staying.{taken-none}
-use Rattle.electing.proofs.Taking.{elected-few, count-step, taken-step}
+use Rattle.electing.proofs.Departure.{droppedWithout, TakenOut, Pushed, dropped-linked, in-stops, record1, ready2, blank2, left-dropped}
+use Rattle.electing.proofs.Remainder.{taken-none}
+use Rattle.electing.proofs.Departures.{elected-few, count-step, taken-step}
 use Rattle.electing.specs.Elected.{firstElected, droppedChains, Dropped}
 
 -- from book b, when m have left

@@ -23,8 +23,8 @@ use Rattle.chains.specs.Indices.{remove, has}
 use Rattle.book.specs.Chains.{Member}
 use Rattle.pending_stops.proofs.ChainChanges.{chain-member, chain-out}
 use Rattle.electing.proofs.Elected.{First}
-use Rattle.electing.proofs.Staying.{taken-none, none-member}
-use Rattle.electing.proofs.Taking.{taken-step, one-by-one}
+use Rattle.electing.proofs.Remainder.{taken-none, none-member}
+use Rattle.electing.proofs.Departures.{taken-step, one-by-one}
 use Rattle.electing.specs.Elected.{unelected}
 
 module _ (price : Price) (w : List ℕ) where

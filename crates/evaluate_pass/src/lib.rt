@@ -1,4 +1,5 @@
-// evaluate_pass
+// The pass over a store of pending stops, from orderbook-rs's stop_orders.rs: its questions in their order, then the segments of its
+// queue. A refused call alters nothing.
 use book::ElectedWords;
 use book::PassAnswer;
 use book::PassCounts;

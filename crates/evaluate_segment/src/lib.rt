@@ -1,4 +1,5 @@
-// evaluate_segment
+// The segment over a store of pending stops, from orderbook-rs's stop_orders.rs: its questions in their order, then a point at each end.
+// A refused call alters nothing.
 use book::Counts;
 use book::ElectedWords;
 use book::EvaluationAnswer;

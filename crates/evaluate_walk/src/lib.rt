@@ -1,4 +1,5 @@
-// evaluate_walk
+// The walk over a store of pending stops, print by print: its questions in their order, then a point at each price. A refused call alters
+// nothing.
 use book::Counts;
 use book::ElectedWords;
 use book::EvaluationAnswer;

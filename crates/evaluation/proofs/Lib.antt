@@ -1,3 +1,3 @@
-pub mod Asking
+pub mod Questions
 pub mod Outcomes
 pub mod Passes

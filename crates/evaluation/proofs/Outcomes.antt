@@ -9,7 +9,7 @@ use lib.Seq.{sets, length-sets}
 use Rattle.error.specs.Answer.{refused, accepted}
 use Rattle.pricelevel.specs.declared.Price.{Price}
 use Rattle.book.specs.declared.Counts.{Counts}
-use Rattle.book.proofs.Evaluating.{PointsAt, segment-points, walk-points, points-count, segment-moves}
+use Rattle.book.proofs.Walks.{PointsAt, segment-points, walk-points, points-count, segment-moves}
 use Rattle.book.specs.Book.{pendingCount}
 use Rattle.book.specs.Calls.{electedEntry, electedEntries, written, countsOf, SegmentOutcome, segmentQuestions, segmentCall, WalkOutcome, walkQuestions, walkCall}
 use Rattle.book.specs.Evaluation.{Evaluated, segment, walk}
@@ -20,9 +20,9 @@ use Rattle.book.specs.declared.PrintSegment.{PrintSegment}
 use Rattle.book.specs.declared.Settings.{Settings}
 use Rattle.listing.proofs.Sets.{sets-written, sets-over}
 use Rattle.listing.specs.Entries.{movedWords, fillWords, electedWords}
-use Rattle.pending_stops.proofs.Finding.{beyond, stored-words}
+use Rattle.pending_stops.proofs.Found.{beyond, stored-words}
 use Rattle.pending_stops.specs.Stored.{Stored}
-use Rattle.evaluation.proofs.Asking.{segment-room, walk-room}
+use Rattle.evaluation.proofs.Questions.{segment-room, walk-room}
 
 map-both : {A B C : Type 0} (f : B → C) (g : A → B) (l : List A) → map (λ x. f (g x)) l ≡ map f (map g l)
 map-both f g [] = refl

@@ -12,7 +12,7 @@ use lib.ListN.{length, getD, length-map}
 use lib.Seq.{sets}
 use Rattle.error.specs.Answer.{refused, accepted}
 use Rattle.book.specs.declared.PassCounts.{PassCounts}
-use Rattle.book.proofs.Passing.{pass-count}
+use Rattle.book.proofs.Passes.{pass-count}
 use Rattle.book.proofs.Questions.{firstNo-none}
 use Rattle.book.specs.Book.{pendingCount}
 use Rattle.book.specs.Calls.{written, Passed, pass, pendingIn, passQuestions, PassOutcome, passed, passCall, RunOutcome, runOver, runCall}
@@ -26,9 +26,9 @@ use Rattle.book.specs.declared.PrintSegment.{PrintSegment}
 use Rattle.book.specs.declared.Settings.{Settings}
 use Rattle.listing.proofs.Sets.{sets-written}
 use Rattle.listing.specs.Entries.{electedWords}
-use Rattle.pending_stops.proofs.Finding.{beyond, stored-words}
+use Rattle.pending_stops.proofs.Found.{beyond, stored-words}
 use Rattle.pending_stops.specs.Stored.{Stored}
-use Rattle.evaluation.proofs.Asking.{count-word}
+use Rattle.evaluation.proofs.Questions.{count-word}
 
 ------------------------------------------------------------------------
 -- The questions, from what the code asked

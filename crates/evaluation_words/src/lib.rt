@@ -1,4 +1,4 @@
-// evaluation_words
+// The words of an evaluation: its settings, and what a segment, a walk or a pass answers.
 use book::EvaluationAnswer;
 use book::PassAnswer;
 use book::Settings;

@@ -1,4 +1,4 @@
-// fips180
+// FIPS 180-4's SHA-1 as definitions, and the state that its steps hand on.
 
 // The five words of a hash value, or the five working variables.
 pub struct State {

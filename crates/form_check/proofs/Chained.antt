@@ -1,5 +1,5 @@
 -- A chain of the store that the walk finds formed is that of the book, and the other way.
-use Rattle.chains.proofs.Linking.{linked-distinct, linked-records}
+use Rattle.chains.proofs.OneChain.{linked-distinct, linked-records}
 use Prim.Native.Nat.{ℕ, _≤_}
 use native.Mathlib.Omega.{arith}
 use mathlib.Core.Path.{_≡_, sym, ap, _∙_}
@@ -8,10 +8,10 @@ use mathlib.Core.List.{List, [], _∷_}
 use lib.Dec.{ltb}
 use lib.ListN.{length, getD}
 use Rattle.book.proofs.FreeChain.{VacantFrom, vacantIndices-vacant, pendingCount-vacant}
-use Rattle.book.proofs.Sorting.{Distinct, sortBy-parts, sortBy-length}
+use Rattle.book.proofs.Sort.{Distinct, sortBy-parts, sortBy-length}
 use Rattle.book.proofs.Lists.{all-map, all-map-both}
 use Rattle.book.specs.Lists.{All}
-use Rattle.book.proofs.Reading.{slotsAt-length}
+use Rattle.book.proofs.ReadBack.{slotsAt-length}
 use Rattle.book.specs.Valid.{SlotFits}
 use Rattle.book.specs.Book.{Slot, Book, chainSide}
 use Rattle.book.specs.Words.{chainIndices, slotsAt, freeFrom, vacantIndices, sortRising, allDiffer}
@@ -22,7 +22,7 @@ use Rattle.book.specs.Chains.{headOf, linkOf, startOf, nextOf, groupOf, Member}
 use Rattle.chains.specs.Rank.{rankAt}
 use Rattle.form_check.specs.Check.{groupCount, chainFormed}
 use Rattle.book.specs.declared.StoreChain.the-variants.{Ordered, Free}
-use Rattle.chains.proofs.Ascending.{Ascending, itself, sortRanked-within, within-sortRanked, sortRanked-ascending, ascending-distinct, ascending-within, ascending-alike}
+use Rattle.chains.proofs.Ascents.{Ascending, itself, sortRanked-within, within-sortRanked, sortRanked-ascending, ascending-distinct, ascending-within, ascending-alike}
 use Rattle.form_check.proofs.Groups.{group-member, group-vacant, vacant-group, member-group, member-rank, groupCount-members, vacantIndices-ascending, vacant-member, members-ranks}
 use Rattle.form_check.proofs.Counts.{groupCount-vacants}
 use Rattle.chains.proofs.Linked.{linked-freeFrom}

@@ -12,7 +12,7 @@ use lib.ListN.{length}
 use Rattle.pricelevel.specs.Side.{sideNumber}
 use Rattle.pricelevel.specs.declared.Side.{Side}
 use Rattle.pricelevel.specs.declared.Side.the-variants.{Buy, Sell}
-use Rattle.book.proofs.Reading.{slotsAt-length}
+use Rattle.book.proofs.ReadBack.{slotsAt-length}
 use Rattle.book.proofs.FreeChain.{pendingCount-vacant}
 use Rattle.book.specs.Book.{Slot, vacant, held, sideOf, pendingCount}
 use Rattle.book.specs.Words.{slotAt, slotsAt, vacantIndices}

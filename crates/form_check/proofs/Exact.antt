@@ -12,7 +12,7 @@ use Rattle.pricelevel.proofs.Bools.{and-parts}
 use Rattle.pricelevel.specs.declared.Side.the-variants.{Buy, Sell}
 use Rattle.book.proofs.Lists.{all-map, all-getD, getD-all, every-all, all-every}
 use Rattle.book.proofs.Places.{layout-header, layout-record}
-use Rattle.book.proofs.Reading.{slotsAt-length}
+use Rattle.book.proofs.ReadBack.{slotsAt-length}
 use Rattle.book.specs.Valid.{SlotFits, Valid}
 use Rattle.book.proofs.WellFormed.{IsWord, WellFormed, bookOf-slots-length, wellFormed-parts, wellFormed-of, wellFormed-valid, wellFormed-layout}
 use Rattle.book.specs.Book.{Slot, vacant, chainSide, pendingCount}
@@ -26,7 +26,7 @@ use Rattle.book.specs.Chains.{headOf, linkOf, startOf, nextOf, chainsOf}
 use Rattle.form_check.specs.Check.{recordFormed, chainFormed, sideFormed, chainsFormed, formed}
 use Rattle.book.specs.declared.StoreChain.{StoreChain}
 use Rattle.book.specs.declared.StoreChain.the-variants.{Ordered, Free}
-use Rattle.chains.proofs.Ascending.{itself, sortRanked-within}
+use Rattle.chains.proofs.Ascents.{itself, sortRanked-within}
 use Rattle.form_check.proofs.Chained.{ordered, chain-ordered, ordered-all, formed-linked, linked-formed-chain, FreeFormed, formed-free, free-formed}
 use Rattle.form_check.proofs.Groups.{group-member, group-vacant, vacant-member}
 use Rattle.chains.proofs.Linked.{Names, linked-head, linked-names}

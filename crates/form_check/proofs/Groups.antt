@@ -13,12 +13,12 @@ use lib.Seq.{getD-set-other}
 use Rattle.pricelevel.specs.Side.{sideNumber}
 use Rattle.pricelevel.specs.declared.Side.{Side}
 use Rattle.pricelevel.specs.declared.Side.the-variants.{Buy, Sell}
-use Rattle.book.proofs.Differing.{SlotsDiffer, slotsDiffer-vacant, differs-parts, allDiffer-others}
+use Rattle.book.proofs.Differences.{SlotsDiffer, slotsDiffer-vacant, differs-parts, allDiffer-others}
 use Rattle.book.proofs.FreeChain.{VacantFrom, vacantIndices-vacant}
-use Rattle.book.proofs.Sorting.{Pairwise, Distinct}
+use Rattle.book.proofs.Sort.{Pairwise, Distinct}
 use Rattle.book.proofs.Lists.{all-map, all-map-both, all-getD}
 use Rattle.book.specs.Lists.{All}
-use Rattle.book.proofs.Reading.{slotsAt-length}
+use Rattle.book.proofs.ReadBack.{slotsAt-length}
 use Rattle.book.specs.Valid.{StopFits, SlotFits}
 use Rattle.book.specs.Book.{Slot, vacant, held, chainSide, sideOf, stopOf, watermarkOf, seqOf, withIndex, gather, ofSide, pendingOn, indices}
 use Rattle.book.specs.Words.{slotAt, slotsAt, vacantIndices, allDiffer}
@@ -28,7 +28,7 @@ use Rattle.book.specs.declared.StopEntry.{StopEntry}
 use Rattle.chains.specs.Rank.{top, rank, rankAt}
 use Rattle.form_check.specs.Check.{groupCount}
 use Rattle.book.specs.declared.StoreChain.the-variants.{Ordered, Free}
-use Rattle.chains.proofs.Ascending.{Ascending, Apart, itself}
+use Rattle.chains.proofs.Ascents.{Ascending, Apart, itself}
 use Rattle.chains.proofs.Ranked.{rankIn}
 use Rattle.book.proofs.Members.{members, members-held, members-distinct}
 use Rattle.book.specs.Chains.{Member, slotGroup}

@@ -10,7 +10,7 @@ use lib.Dec.{eqb, ltb}
 use Rattle.pricelevel.proofs.Bools.{and-parts}
 use Rattle.pricelevel.specs.Identity.{kindNumber, sameId}
 use Rattle.pricelevel.specs.declared.Id.{Id}
-use Rattle.book.proofs.Differing.{SlotsDiffer, slotsDiffer-vacant, differs-parts, differs-of, allDiffer-parts, allDiffer-of}
+use Rattle.book.proofs.Differences.{SlotsDiffer, slotsDiffer-vacant, differs-parts, differs-of, allDiffer-parts, allDiffer-of}
 use Rattle.book.proofs.Lists.{every-all, all-every}
 use Rattle.book.specs.Lists.{rising, All}
 use Rattle.book.specs.Words.{recordWord, entryAt, slotAt, slotsAt, allDiffer}

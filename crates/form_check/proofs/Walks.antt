@@ -21,7 +21,7 @@ use Rattle.form_check.specs.Check.{groupCount, mayFollow, walkFormed, ch
 use Rattle.book.specs.Chains.{startOf, nextOf, groupOf, slotGroup}
 use Rattle.book.specs.declared.StoreChain.{StoreChain}
 use Rattle.book.specs.declared.StoreChain.the-variants.{Ordered, Free}
-use Rattle.chains.proofs.Ascending.{Ascending}
+use Rattle.chains.proofs.Ascents.{Ascending}
 
 ------------------------------------------------------------------------
 -- A turn

@@ -1,4 +1,4 @@
-// form_check
+// What the form check remembers of a store: how many records each side has, and the keys by which stops are told apart.
 
 // How many records each side has.
 pub struct Sides {

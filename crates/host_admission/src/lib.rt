@@ -1,4 +1,4 @@
-// host_admission
+// Admission for hosts: every argument as words. Asked before all else: is each value known (255)?
 use change_words::admission_known;
 use host_words::UNKNOWN;
 use path_words::last_price_of;

@@ -1,4 +1,4 @@
-// host_evaluation
+// Segment and walk for hosts: every argument as words.
 use book::ElectedWords;
 use book::MovedWords;
 use evaluation_words::of_evaluation;

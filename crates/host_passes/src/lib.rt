@@ -1,4 +1,4 @@
-// host_passes
+// Pass and run for hosts: every argument as words. Asked before all else: is the path's every flag known (255)?
 use book::ElectedWords;
 use evaluation_words::of_pass;
 use evaluation_words::settings_of;

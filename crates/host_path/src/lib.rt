@@ -1,4 +1,4 @@
-// host_path
+// The print path for hosts, as four words. Asked before all else: is each flag known (255)?
 use host_words::UNKNOWN;
 use path_words::last_price_of;
 use path_words::path_known;

@@ -1,4 +1,4 @@
-// host_stops
+// Change, cancel and search for hosts: every argument as words. Asked before all else: is each value known (255)?
 use change_words::change_known;
 use change_words::update_of;
 use host_words::UNKNOWN;

@@ -1,4 +1,4 @@
-// host_terms
+// The terms of a stop and the preview for hosts: every argument as words. Asked before all else: is each value known (255)?
 use host_words::UNKNOWN;
 use path_words::flag;
 use pricelevel::Price;

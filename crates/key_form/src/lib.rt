@@ -1,4 +1,5 @@
-// key_form
+// Whether the pending stops of a store differ in identity and in sequence: by buckets of their keys, in a time that the number of
+// stops bounds and not its square, unless keys are made to collide.
 use book::MOST_RECORDS;
 use form_check::Key;
 use records::word;

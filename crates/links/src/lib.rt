@@ -1,4 +1,4 @@
-// links
+// One chain: the place of a record is found, and the record linked in or out.
 use book::Chain;
 use records::cell;
 use records::is_before;

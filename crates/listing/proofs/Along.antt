@@ -12,8 +12,8 @@ use Rattle.book.specs.Words.{cell, recordWord, entryAt}
 use Rattle.book.specs.declared.StopEntry.{StopEntry}
 use Rattle.chains.specs.Links.{Linked}
 use Rattle.chains.specs.Records.{Room, Record}
-use Rattle.chains.proofs.Linking.{From, linked-from}
-use Rattle.listing.proofs.Noting.{Written}
+use Rattle.chains.proofs.OneChain.{From, linked-from}
+use Rattle.listing.proofs.Notes.{Written}
 use Rattle.listing.proofs.Sets.{sets-on}
 
 module _ (test : StopEntry → Bool) (give : StopEntry → List (List ℕ)) (w : List ℕ) where

@@ -1,7 +1,7 @@
 pub mod Along
-pub mod Choosing
-pub mod Leading
+pub mod Choices
+pub mod Leaders
 pub mod Listed
-pub mod Noting
+pub mod Notes
 pub mod Sets
 pub mod Walked

@@ -13,7 +13,7 @@ use Rattle.pricelevel.specs.declared.Side.{Side}
 use Rattle.pricelevel.specs.declared.Side.the-variants.{Buy, Sell}
 use Rattle.stop_terms.specs.Terms.{behind}
 use Rattle.book.specs.Lists.{All}
-use Rattle.book.proofs.Parting.{AllStops}
+use Rattle.book.proofs.SortedParts.{AllStops}
 use Rattle.book.specs.Steps.{elect, electedIn}
 use Rattle.book.proofs.Stops.{trailed-still}
 use Rattle.book.specs.Valid.{StopFits, SlotFits}
@@ -21,8 +21,8 @@ use Rattle.book.specs.Book.{Slot, vacant, held, Book, sideOf, stopOf, Pending, 
 use Rattle.book.specs.Evaluation.{trailed, leavingOn, changedOn, mover, movedEntry, movedOn, fillAt}
 use Rattle.book.specs.declared.Chain.the-variants.{ByStop, ByWatermark}
 use Rattle.book.specs.declared.StopEntry.{StopEntry}
-use Rattle.listing.proofs.Choosing.{chosen, chosenOf, chosen-gather, chosen-sort}
-use Rattle.listing.proofs.Leading.{leading, given, watermarkBehind, electedStop}
+use Rattle.listing.proofs.Choices.{chosen, chosenOf, chosen-gather, chosen-sort}
+use Rattle.listing.proofs.Leaders.{leading, given, watermarkBehind, electedStop}
 use Rattle.listing.specs.Entries.{movedWords, fillWords, movesOf, fillOf, fillsOf}
 
 ------------------------------------------------------------------------

@@ -12,7 +12,7 @@ use Rattle.pricelevel.specs.declared.Side.the-variants.{Buy, Sell}
 use Rattle.book.proofs.Lists.{all-map}
 use Rattle.book.specs.Lists.{All}
 use Rattle.book.proofs.Lookup.{InBook, chain-in-book}
-use Rattle.book.proofs.Reading.{bookOf-layout}
+use Rattle.book.proofs.ReadBack.{bookOf-layout}
 use Rattle.book.specs.Steps.{electedIn}
 use Rattle.book.specs.Book.{Book, chainSide, chain}
 use Rattle.book.specs.Evaluation.{movedOn, fillAt}
@@ -21,18 +21,18 @@ use Rattle.book.specs.Sizes.{headerLength}
 use Rattle.book.specs.declared.Chain.{Chain}
 use Rattle.book.specs.declared.Chain.the-variants.{ByStop, ByWatermark}
 use Rattle.book.specs.declared.StopEntry.{StopEntry}
-use Rattle.chains.proofs.Linking.{linked-length}
+use Rattle.chains.proofs.OneChain.{linked-length}
 use Rattle.book.specs.Chains.{headOf, linkOf}
 use Rattle.book.specs.declared.StoreChain.the-variants.{Ordered}
 use Rattle.chains.specs.Links.{Linked}
 use Rattle.chains.specs.Records.{Room}
-use Rattle.pending_stops.proofs.Holding.{stored-holds}
-use Rattle.pending_stops.proofs.Storing.{contents-entry}
+use Rattle.pending_stops.proofs.Contents.{stored-holds}
+use Rattle.pending_stops.proofs.StoredWords.{contents-entry}
 use Rattle.pending_stops.specs.Stored.{Stored}
 use Rattle.listing.proofs.Along.{along, At, at-first}
-use Rattle.listing.proofs.Leading.{Reads, along-chain, watermarkBehind, electedStop, watermarks-apart, elected-apart}
+use Rattle.listing.proofs.Leaders.{Reads, along-chain, watermarkBehind, electedStop, watermarks-apart, elected-apart}
 use Rattle.listing.proofs.Listed.{given-movedOn, given-electedIn}
-use Rattle.listing.proofs.Noting.{Written}
+use Rattle.listing.proofs.Notes.{Written}
 use Rattle.listing.specs.Entries.{movedWords, fillWords, movesOf, fillsOf}
 
 ------------------------------------------------------------------------

@@ -1,4 +1,4 @@
-// order_update
+// What a change makes of a stop: its terms, quantity and sequence, from orderbook-rs's update of a stop order.
 use book::OrderUpdate;
 use book::StopEntry;
 use pricelevel::Price;

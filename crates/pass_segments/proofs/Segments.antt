@@ -5,7 +5,7 @@ use mathlib.Core.Path.{_≡_, refl, sym, ap, _∙_}
 use native.Mathlib.Omega.{arith}
 use lib.ListN.{length, getD, length-map}
 use lib.Seq.{sets, length-sets}
-use Rattle.book.proofs.Evaluating.{segment-points, points-count}
+use Rattle.book.proofs.Walks.{segment-points, points-count}
 use Rattle.book.specs.Book.{Book, pendingCount}
 use Rattle.book.specs.Calls.{electedEntry, electedEntries, evaluatedIn, executedIn}
 use Rattle.book.specs.Evaluation.{Fill, segment}
@@ -16,11 +16,11 @@ use Rattle.book.specs.declared.Settings.{Settings}
 use Rattle.listing.proofs.Sets.{sets-over}
 use Rattle.listing.specs.Entries.{fillWords, electedWords}
 use Rattle.pending_stops.specs.Stored.{Stored}
-use Rattle.points.proofs.Pointing.{Does}
-use Rattle.script.proofs.Executing.{flags-written}
+use Rattle.points.proofs.Points.{Does}
+use Rattle.script.proofs.Executions.{flags-written}
 use Rattle.script.specs.Execute.{pendingWord, Flags}
 use Rattle.script.specs.Queue.{Enqueued}
-use Rattle.book.proofs.Passing.{entries-length}
+use Rattle.book.proofs.Passes.{entries-length}
 
 module _ (settings : Settings) (prints : PrintSegment) where
   -- the elected of the segment

@@ -1,4 +1,4 @@
-// pass_segments
+// One segment of a pass: its points, the children of what it elected, and the script entries that they use.
 use book::ElectedWords;
 use book::PrintSegment;
 use book::Settings;

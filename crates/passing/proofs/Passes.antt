@@ -8,8 +8,8 @@ use native.Mathlib.Nat.{zero-add}
 use native.Mathlib.Omega.{arith}
 use lib.ListN.{length, getD, replicate, take, drop, length-append, length-drop}
 use lib.Seq.{sets, drop-drop}
-use Rattle.book.proofs.Executing.{executed-segments}
-use Rattle.book.proofs.Passing.{passFrom-empty, passFrom-done, passFrom-step, passFrom-fuel, passFrom-moves}
+use Rattle.book.proofs.Execution.{executed-segments}
+use Rattle.book.proofs.Passes.{passFrom-empty, passFrom-done, passFrom-step, passFrom-fuel, passFrom-moves}
 use Rattle.book.specs.Book.{Book, pendingCount}
 use Rattle.book.specs.Calls.{Passed, passFrom, pass, evaluatedIn, executedIn, scriptAfter, ended, withSegment}
 use Rattle.book.specs.Script.{scriptFormed}
@@ -18,16 +18,16 @@ use Rattle.book.specs.declared.Elected.{Elected}
 use Rattle.book.specs.declared.PrintSegment.{PrintSegment}
 use Rattle.book.specs.declared.Settings.{Settings}
 use Rattle.listing.specs.Entries.{electedWords}
-use Rattle.pending_stops.proofs.Finding.{count-word}
-use Rattle.pending_stops.proofs.Holding.{stored-holds}
+use Rattle.pending_stops.proofs.Found.{count-word}
+use Rattle.pending_stops.proofs.Contents.{stored-holds}
 use Rattle.pending_stops.specs.Stored.{Stored}
-use Rattle.points.proofs.Stepping.{stored-few, run-on}
+use Rattle.points.proofs.Steps.{stored-few, run-on}
 use Rattle.print_path.specs.Segments.{toldNext}
 use Rattle.print_path.specs.declared.NextSegment.{NextSegment}
 use Rattle.print_path.specs.declared.NextSegment.the-variants as next
-use Rattle.script.proofs.Executing.{executed-within}
-use Rattle.script.proofs.Forming.{formed-drop, script-part}
-use Rattle.script.proofs.Queueing.{queued-sets, queued-next, queued-more, firstOf-none, firstOf-some, enqueued-length}
+use Rattle.script.proofs.Executions.{executed-within}
+use Rattle.script.proofs.ScriptForm.{formed-drop, script-part}
+use Rattle.script.proofs.Queue.{queued-sets, queued-next, queued-more, firstOf-none, firstOf-some, enqueued-length}
 use Rattle.script.specs.Queue.{segmentWords, Queued, firstOf}
 use Rattle.pass_segments.proofs.Segments.{entriesIn, entries-count, SegmentPasses}
 

@@ -22,10 +22,10 @@ use Rattle.book.specs.Words.{chainIndices}
 use Rattle.book.specs.declared.Chain.{Chain}
 use Rattle.book.specs.declared.StopEntry.{StopEntry}
 use Rattle.chains.proofs.Members.{has-none, has-cases, has-all, all-has, has-remove, remove-here, remove-there, remove-absent}
-use Rattle.chains.proofs.Sorting.{has-sortRanked, sortRanked-out, sortRanked-cong, remove-insertRanked}
+use Rattle.chains.proofs.RankedSort.{has-sortRanked, sortRanked-out, sortRanked-cong, remove-insertRanked}
 use Rattle.chains.specs.Indices.{insertRanked, sortRanked, remove, has, RanksDiffer}
-use Rattle.chains.proofs.Ascending.{Apart, differ-members}
-use Rattle.book.proofs.Sorting.{Pairwise}
+use Rattle.chains.proofs.Ascents.{Apart, differ-members}
+use Rattle.book.proofs.Sort.{Pairwise}
 use Rattle.form_check.proofs.Groups.{members-ranks}
 use Rattle.chains.proofs.Ranked.{rankOfSlot, rankIn, chain-members}
 use Rattle.book.proofs.Members.{members, members-held, held-member}

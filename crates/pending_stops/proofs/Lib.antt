@@ -1,9 +1,9 @@
 pub mod ChainChanges
-pub mod Entering
-pub mod Finding
-pub mod Holding
-pub mod Occupying
-pub mod Placing
-pub mod Replacing
-pub mod Storing
-pub mod Vacating
+pub mod Entry
+pub mod Found
+pub mod Contents
+pub mod Occupation
+pub mod Unchained
+pub mod Replacement
+pub mod StoredWords
+pub mod Vacancy

@@ -1,3 +1,3 @@
 pub mod PointSteps
-pub mod Pointing
-pub mod Stepping
+pub mod Points
+pub mod Steps

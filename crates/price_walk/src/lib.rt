@@ -1,4 +1,4 @@
-// price_walk
+// A point at each price of a walk, on the words of a store.
 use book::ElectedWords;
 use book::LastPrice;
 use points::Points;

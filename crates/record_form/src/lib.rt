@@ -1,4 +1,4 @@
-// record_form
+// The form check of each record by itself: a stop's words stand for consistent terms, and a free record holds none.
 use book::NEXT_BY_STOP;
 use book::RECORD_WORDS;
 use pricelevel::on_tick;

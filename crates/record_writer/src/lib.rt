@@ -1,4 +1,4 @@
-// record_writer
+// A record written whole: a stop's words with its links, or a free record's.
 use book::RECORD_WORDS;
 use book::StopEntry;
 use records::write_record;

@@ -1,3 +1,3 @@
-pub mod Inserting
-pub mod Relinking
-pub mod Resorting
+pub mod Insertion
+pub mod Relinks
+pub mod SortPass

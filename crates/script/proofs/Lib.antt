@@ -1,5 +1,5 @@
-pub mod Advancing
-pub mod Executing
-pub mod Forming
-pub mod Printing
-pub mod Queueing
+pub mod OneExecution
+pub mod Executions
+pub mod ScriptForm
+pub mod PrintedSegment
+pub mod Queue

@@ -1,4 +1,4 @@
-// segment_queue
+// The queue of a pass: the segments that children print, as words.
 use book::LastPrice;
 use book::PrintSegment;
 use pricelevel::Price;

@@ -1,1 +1,1 @@
-pub mod Segmenting
+pub mod TwoPoints

@@ -1,4 +1,4 @@
-// segments
+// The points of a segment, at its first print and at its last if that differs, and the lists that they fill.
 use book::ElectedWords;
 use book::LastPrice;
 use book::MovedWords;

@@ -1,4 +1,4 @@
-// sha1_schedule
+// SHA-1's message schedule, from a padded message of one block.
 use sha1_step::rotl;
 ghost use mathlib.Core.Path.{_≡_};
 ghost use Prim.Native.Nat.{_+_, _-_, _*_, _/_, _%_, _^_, _≤_, _<_};

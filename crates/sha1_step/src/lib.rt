@@ -1,4 +1,4 @@
-// sha1_step
+// One step of SHA-1, and the sum of a block's result with the hash value.
 use fips180::State;
 ghost use mathlib.Core.Path.{_≡_};
 ghost use Prim.Native.Nat.{_+_, _-_, _/_, _%_, _^_, _<_};

@@ -1,4 +1,4 @@
-// side_order
+// Which side a print serves first, and whether it falls.
 use book::LastPrice;
 use pricelevel::Price;
 use pricelevel::Side;

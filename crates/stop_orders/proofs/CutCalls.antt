@@ -13,10 +13,10 @@ use Rattle.error.specs.Answer.{Answer}
 use Rattle.pricelevel.specs.declared.IdKind.the-variants.{Uuid}
 use Rattle.pricelevel.specs.declared.Price.{Price}
 use Rattle.stop_trigger.specs.Child.{childId, idOf}
-use Rattle.book.proofs.Evaluating.{PointsAt, segment-points, walk-points, points-count, segment-moves}
+use Rattle.book.proofs.Walks.{PointsAt, segment-points, walk-points, points-count, segment-moves}
 use Rattle.book.proofs.Lists.{all-append}
 use Rattle.book.specs.Lists.{All}
-use Rattle.book.proofs.Passing.{passFrom-induction, pass-count}
+use Rattle.book.proofs.Passes.{passFrom-induction, pass-count}
 use Rattle.book.proofs.Questions.{decide-outcomes}
 use Rattle.book.specs.Book.{Book, pendingCount}
 use Rattle.book.specs.Calls.{electedEntry, electedEntries, written, countsOf, pendingIn, segmentQuestions, SegmentOutcome, segmentCall}
@@ -34,11 +34,11 @@ use Rattle.book.specs.declared.Moved.{Moved}
 use Rattle.book.specs.declared.PrintPath.{PrintPath}
 use Rattle.book.specs.declared.PrintSegment.{PrintSegment}
 use Rattle.book.specs.declared.Settings.{Settings}
-use Rattle.evaluation.proofs.Asking.{segment-room, walk-room}
+use Rattle.evaluation.proofs.Questions.{segment-room, walk-room}
 use Rattle.evaluation.proofs.Passes.{pass-elected}
 use Rattle.listing.specs.Entries.{electedWords, movedWords}
-use Rattle.pending_stops.proofs.Finding.{wellFormed-stored}
-use Rattle.points.proofs.Stepping.{stored-few}
+use Rattle.pending_stops.proofs.Found.{wellFormed-stored}
+use Rattle.points.proofs.Steps.{stored-few}
 use Rattle.stop_orders.specs.Records.{electedOf, movedOf, electedCount, movedCount, passCount}
 use Rattle.stop_orders.proofs.Cut.{Lists, part-room, cut-list, Left}
 use Rattle.stop_orders.proofs.Reading.{elected-read, moved-read}

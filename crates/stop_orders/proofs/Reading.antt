@@ -6,7 +6,7 @@ use lib.Dec.{ltb}
 use Rattle.pricelevel.specs.declared.IdKind.the-variants.{Uuid}
 use Rattle.stop_protection.specs.declared.Limit.{Limit}
 use Rattle.stop_protection.specs.declared.Limit.the-variants as limit
-use Rattle.book.proofs.Reading.{kindOf-number, sideFrom-number}
+use Rattle.book.proofs.ReadBack.{kindOf-number, sideFrom-number}
 use Rattle.book.specs.declared.Elected.{Elected}
 use Rattle.book.specs.declared.Moved.{Moved}
 use Rattle.listing.specs.Entries.{limitPresent, limitWord, electedWords, movedWords}

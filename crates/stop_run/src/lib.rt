@@ -1,4 +1,4 @@
-// stop_run
+// The run over path and store, from orderbook-rs's stop_orders.rs: a pass over the path's segment, and the path reset.
 use book::ElectedWords;
 use book::LastPrice;
 use book::PassAnswer;

@@ -1,4 +1,4 @@
-// store_answers
+// The words of what a call on the store answers.
 use book::AdmissionAnswer;
 use book::FindAnswer;
 use book::LayoutAnswer;

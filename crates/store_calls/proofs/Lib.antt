@@ -1,2 +1,2 @@
-pub mod Cancelling
-pub mod Clearing
+pub mod Cancel
+pub mod Clear

@@ -1,4 +1,5 @@
-// store_calls
+// Cancel, search, clear and totals on a store of pending stops, from orderbook-rs's stop_orders.rs: the questions of each in their order,
+// then one operation; a refused call alters nothing.
 use book::Cleared;
 use book::FindAnswer;
 use book::LayoutAnswer;

@@ -1,4 +1,4 @@
-// store_layout
+// An empty store laid out: every word of header and records written, the free chain rising.
 use book::HEADER_WORDS;
 use book::LayoutAnswer;
 use book::MOST_RECORDS;

@@ -8,8 +8,8 @@ use lib.ListN.{length, getD, drop}
 use Rattle.book.proofs.Chains.{layout-head, layout-next}
 use Rattle.book.proofs.Lists.{all-map, all-map-both}
 use Rattle.book.proofs.Members.{Belongs, belongs-range, chainsOf-belong, chainsOf-distinct, chainIndices-length}
-use Rattle.book.proofs.Reading.{nextIn-here, nextIn-there}
-use Rattle.book.proofs.Sorting.{Distinct}
+use Rattle.book.proofs.ReadBack.{nextIn-here, nextIn-there}
+use Rattle.book.proofs.Sort.{Distinct}
 use Rattle.book.proofs.WellFormed.{wellFormed-parts, wellFormed-valid, wellFormed-layout, bookOf-slots-length}
 use Rattle.book.specs.Book.{Book}
 use Rattle.book.specs.Chains.{startOf, nextOf, chainsOf}

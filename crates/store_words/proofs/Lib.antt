@@ -2,4 +2,4 @@ pub mod ChainsOf
 pub mod StoredNumbers
 pub mod Search
 pub mod Sums
-pub mod Laying
+pub mod EmptyWords

@@ -1,10 +1,9 @@
 -- The search for an identity along a chain, link by link, and along the two stop chains of a book.
-use Prim.Native.Nat.{ℕ, zero, suc, _+_, _-_, _≤_, _<_}
+use Prim.Native.Nat.{ℕ, _+_, _-_, _≤_, _<_}
 use mathlib.Core.Path.{_≡_, refl, sym, _∙_}
 use mathlib.Core.Bool.{Bool, true, false, cond}
 use mathlib.Core.List.{List, [], _∷_, _++_}
-use mathlib.Core.Option.{none, some}
-use native.Mathlib.Nat.{add-zero, add-suc, suc-add}
+use mathlib.Core.Option.{some}
 use native.Mathlib.Omega.{arith}
 use borrow.Author.Tests.{eq-eqb, ne-eqb}
 use borrow.Table.Steps.{cases}
@@ -17,15 +16,16 @@ use Rattle.pricelevel.specs.declared.Side.the-variants.{Buy, Sell}
 use Rattle.book.proofs.Lists.{all-map}
 use Rattle.book.specs.Lists.{All}
 use Rattle.book.proofs.Lookup.{InBook, chain-in-book}
-use Rattle.book.proofs.Reading.{slotsAt-length}
-use Rattle.book.specs.Book.{Slot, vacant, held, Pending, chain, indices}
+use Rattle.book.proofs.ReadBack.{slotsAt-length}
+use Rattle.book.specs.Book.{Pending, chain, indices}
 use Rattle.book.specs.Store.{named, lookup}
-use Rattle.book.specs.Words.{chainIndices, cell, recordWord, entryAt, slotAt, slotsAt, bookOf, wellFormed}
+use Rattle.book.specs.Words.{chainIndices, entryAt, bookOf, wellFormed}
 use Rattle.book.specs.declared.Chain.{Chain}
 use Rattle.book.specs.declared.Chain.the-variants.{ByStop}
 use Rattle.book.specs.declared.StoreChain.the-variants.{Ordered}
-use Rattle.book.specs.declared.StopEntry.{StopEntry}
-use Rattle.chains.specs.Links.{Linked, Walk}
+use Rattle.chains.specs.Links.{Linked}
+use Rattle.chains.specs.Records.{Room}
+use Rattle.chains.proofs.OneChain.{linked-length}
 use Rattle.book.specs.Chains.{headOf}
 use Rattle.store_words.specs.Search.{firstNamed, indexOr0}
 use Rattle.book.specs.Sizes.{nextByStop, storeLength}
@@ -35,9 +35,10 @@ use Rattle.book.proofs.Slots.{slotAt-entry, slotsAt-at}
 ------------------------------------------------------------------------
 -- One link
 
-pub firstNamed-none : (w : List ℕ) (id : Id) → firstNamed w id [] ≡ 0
+pub firstNamed-end : (n : ℕ) (w : List ℕ) (k p : ℕ) (id : Id) (l : List ℕ) → getD w p 0 ≡ 0 → Linked n w k p l → firstNamed w id l ≡ 0
 unfolding firstNamed
-firstNamed-none w id = refl
+firstNamed-end n w k p id [] e h = refl
+firstNamed-end n w k p id (j ∷ l) e h = absurd (omega (arith, h .0, h .1))
 
 pub firstNamed-here : (w : List ℕ) (id : Id) (i : ℕ) (l : List ℕ) → sameId id (entryAt w i .id) ≡ true → firstNamed w id (i ∷ l) ≡ i
 unfolding firstNamed
@@ -119,13 +120,18 @@ module _ (w : List ℕ) (e : wellFormed w ≡ true) (n : ℕ) (q : n ≡ getD w 
   stop-linked : (side : Side) → Linked n w nextByStop (headOf (ByStop side)) (chainIndices (ByStop side) (bookOf w))
   stop-linked side = rw q (wellFormed-linked w e (Ordered (ByStop side)))
 
-  -- what is found along it
-  pub stop-found : (side : Side) (id : Id) (head i : ℕ) → head ≡ headOf (ByStop side)
-      → ((l : List ℕ) → Linked n w nextByStop head l → i ≡ firstNamed w id l) → i ≡ firstNamed w id (chainIndices (ByStop side) (bookOf w))
-  stop-found side id head i h f = f _ (rw h (stop-linked side))
+  module _ (side : Side) (head : ℕ) (h : head ≡ headOf (ByStop side)) where
+    pub stop-head : head < length w
+    stop-head = rw h (head-inside side _ _ (wellFormed-room w e .room))
 
-  -- what the search asks of a side's stop chain
-  pub stop-walk : (side : Side) → (l : List ℕ) × Walk n w nextByStop (headOf (ByStop side)) l
-  stop-walk side =
-      let room = rw (← q) at (wellFormed-room w e) in
-      (chainIndices (ByStop side) (bookOf w), record { inside = room; link = omega arith; start = head-inside side _ _ (room .room); linked = stop-linked side })
+    -- what the search asks of a side's stop chain
+    pub stop-search : Room n w × ((p : ℕ) × (l : List ℕ) × (getD w p 0 ≡ getD w head 0) × Linked n w nextByStop p l × (length l ≤ n))
+    stop-search =
+        let l = chainIndices (ByStop side) (bookOf w) in
+        let linked : Linked n w nextByStop head l = rw h (stop-linked side) in
+        (rw (← q) at (wellFormed-room w e), (head, l, refl, linked, linked-length n nextByStop w head l linked))
+
+    -- what it finds there
+    pub stop-found : (id : Id) (i : ℕ) → ((p : ℕ) (l : List ℕ) → getD w p 0 ≡ getD w head 0 → Linked n w nextByStop p l → i ≡ firstNamed w id l)
+        → i ≡ firstNamed w id (chainIndices (ByStop side) (bookOf w))
+    stop-found id i f = f head _ refl (rw h (stop-linked side))

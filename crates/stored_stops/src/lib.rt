@@ -1,4 +1,4 @@
-// stored_stops
+// A stop read from its record, and the record of an identity found along the stop chains.
 use book::Chain;
 use book::NEXT_BY_STOP;
 use book::StopEntry;
@@ -8,20 +8,19 @@ use pricelevel::Price;
 use pricelevel::Quantity;
 use pricelevel::Seq;
 use pricelevel::Side;
-use records::cell;
 use records::head_of;
 use records::word;
 use stop_terms::StopTerms;
 ghost use mathlib.Core.Path.{_≡_};
 ghost use mathlib.Core.Bool.{true};
 ghost use mathlib.Core.List.{List};
-ghost use Prim.Native.Nat.{ℕ, _-_};
-ghost use lib.ListN.{getD};
+ghost use Prim.Native.Nat.{ℕ, _≤_};
+ghost use lib.ListN.{length, getD};
 ghost use Rattle.book.specs.Store.{lookup};
-ghost use Rattle.book.specs.Words.{cell, kindOf, sideFrom, entryAt, bookOf, wellFormed};
+ghost use Rattle.book.specs.Words.{kindOf, sideFrom, entryAt, bookOf, wellFormed};
 ghost use Rattle.book.specs.Sizes.{nextByStop};
-ghost use Rattle.chains.specs.Links.{Linked, Walk};
-ghost use Rattle.chains.specs.Records.{Record};
+ghost use Rattle.chains.specs.Links.{Linked};
+ghost use Rattle.chains.specs.Records.{Room, Record};
 ghost use Rattle.store_words.specs.Search.{firstNamed, indexOr0};
 
 // What a kind's word stands for.
@@ -94,26 +93,23 @@ pub fn entry_at(s: &[u64], n: u64, i: u64) -> StopEntry
     }
 }
 
-// The first record with this identity in the stop chain that the word at head starts; 0 for none. What is left is a measure for the
-// proof: it never ends the walk.
-fn find_from(s: &[u64], n: u64, head: usize, id: Id) -> u64
-    requires { ⌜ ((l : List ℕ) × Walk n (now s) nextByStop head l) ⌝ }
-    ensures { λ r. ⌜ ((l : List ℕ) → Linked n (now (s .entry)) nextByStop head l → r ≡ firstNamed (now (s .entry)) id l) ⌝ }
+// The first record with this identity from record i on, by the links of a stop chain that has at most left records to go; 0 for none. What
+// is left is the measure by which the calls end; a chain ends by its 0.
+fn find_from(s: &[u64], n: u64, i: u64, left: u64, id: Id) -> u64
+    requires { ⌜ Room n (now s) ⌝ }
+    requires { ⌜ ((p : ℕ) × (l : List ℕ) × (getD (now s) p 0 ≡ i) × Linked n (now s) nextByStop p l × (length l ≤ left)) ⌝ }
+    ensures { λ r. ⌜ ((p : ℕ) (l : List ℕ) → getD (now (s .entry)) p 0 ≡ i → Linked n (now (s .entry)) nextByStop p l
+        → r ≡ firstNamed (now (s .entry)) id l) ⌝ }
 {
-    let mut p = head;
-    let mut left = n;
-    loop {
-        let i = s[p];
-        if i == 0 {
-            return 0;
-        }
-        let here = id_at(s, n, i);
-        if id.eq(here) {
-            return i;
-        }
-        p = cell(i, NEXT_BY_STOP);
-        left = left - 1;
+    if i == 0 {
+        return 0;
     }
+    let here = id_at(s, n, i);
+    if id.eq(here) {
+        return i;
+    }
+    let next = word(s, n, i, NEXT_BY_STOP);
+    find_from(s, n, next, left - 1, id)
 }
 
 // The record that holds an identity: along the sell stop chain, then the buy stop chain; 0 for none.
@@ -121,9 +117,11 @@ pub fn find_id(s: &[u64], n: u64, id: Id) -> u64
     requires { ⌜ (wellFormed (now s) ≡ true) × (n ≡ getD (now s) 0 0) ⌝ }
     ensures { λ r. ⌜ r ≡ indexOr0 (lookup id (bookOf (now (s .entry)))) ⌝ }
 {
-    let sell = find_from(s, n, head_of(Chain::ByStop(Side::Sell)), id);
-    if sell != 0 {
-        return sell;
+    let sell = s[head_of(Chain::ByStop(Side::Sell))];
+    let i = find_from(s, n, sell, n, id);
+    if i != 0 {
+        return i;
     }
-    find_from(s, n, head_of(Chain::ByStop(Side::Buy)), id)
+    let buy = s[head_of(Chain::ByStop(Side::Buy))];
+    find_from(s, n, buy, n, id)
 }

@@ -1,4 +1,4 @@
-// term_answers
+// The words of collars, limits, previews and refusals.
 use repricing::TrailingStopPrice;
 use stop_protection::Limit;
 use stop_protection::NewProtection;

@@ -1,4 +1,4 @@
-// term_words
+// The words of an identity, a side and terms: whether each value is known, what they stand for, and back.
 use pricelevel::Id;
 use pricelevel::Price;
 use stop_terms::StopTerms;

@@ -19,9 +19,9 @@ use Rattle.book.specs.Words.{chainIndices}
 use Rattle.book.specs.declared.Chain.{Chain}
 use Rattle.book.specs.declared.Chain.the-variants.{ByWatermark}
 use Rattle.chains.specs.Rank.{rankAt}
-use Rattle.chains.proofs.Ascending.{Ascending}
+use Rattle.chains.proofs.Ascents.{Ascending}
 use Rattle.chains.proofs.Ranked.{rankIn}
-use Rattle.resort.proofs.Inserting.{insertRanked-end, foldIn, fold-sort, fold-none, fold-next}
+use Rattle.resort.proofs.Insertion.{insertRanked-end, foldIn, fold-sort, fold-none, fold-next}
 use Rattle.trailing.proofs.Mapped.{resorted, resorts}
 use Rattle.trailing.proofs.Slots.{trailedSlot-keeps, trailedOn-valid, trailedOn-fits}
 use Rattle.trailing.specs.Trail.{stillInOrder, endsInOrder}

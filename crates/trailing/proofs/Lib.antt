@@ -2,9 +2,9 @@ pub mod Behind
 pub mod InOrder
 pub mod Mapped
 pub mod Moved
-pub mod Ordering
+pub mod SideChains
 pub mod Passed
 pub mod Slots
 pub mod Trailed
-pub mod Walking
-pub mod Writing
+pub mod TrailWalk
+pub mod TrailedWords

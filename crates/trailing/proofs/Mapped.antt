@@ -9,7 +9,7 @@ use Rattle.pricelevel.proofs.Bools.{and-parts}
 use Rattle.pricelevel.specs.declared.Side.{Side}
 use Rattle.pricelevel.specs.declared.Side.the-variants.{Buy, Sell}
 use Rattle.book.proofs.Lists.{every-all, all-every, all-mapped}
-use Rattle.book.proofs.Sorting.{Pairwise}
+use Rattle.book.proofs.Sort.{Pairwise}
 use Rattle.book.specs.Valid.{Valid, SlotFits, Fits}
 use Rattle.book.specs.Book.{Slot, vacant, held, Book, chainSide, sideOf, withIndex, gather, ofSide, pendingOn, indices, pendingCount}
 use Rattle.book.specs.Lists.{every}
@@ -17,18 +17,18 @@ use Rattle.book.specs.Words.{chainIndices, soundStop, differs, allDiffer, vacan
 use Rattle.book.specs.declared.Chain.{Chain}
 use Rattle.book.specs.declared.StopEntry.{StopEntry}
 use Rattle.chains.proofs.Members.{has-none, has-cases, all-has}
-use Rattle.chains.proofs.Sorting.{has-sortRanked, sortRanked-cong}
+use Rattle.chains.proofs.RankedSort.{has-sortRanked, sortRanked-cong}
 use Rattle.chains.specs.Indices.{sortRanked, has, RanksDiffer}
 use Rattle.chains.specs.Rank.{rankAt}
-use Rattle.chains.proofs.Ascending.{differ-members}
+use Rattle.chains.proofs.Ascents.{differ-members}
 use Rattle.form_check.proofs.Groups.{members-ranks}
 use Rattle.chains.proofs.Ranked.{rankOfSlot, rankIn, chain-members}
 use Rattle.book.proofs.Members.{members, members-held}
 use Rattle.book.specs.Chains.{Member}
 use Rattle.pending_stops.proofs.ChainChanges.{chain-member}
 use Rattle.pending_stops.specs.Stored.{Contents}
-use Rattle.pending_stops.proofs.Storing.{contents-rank}
-use Rattle.resort.proofs.Inserting.{sortRanked-again}
+use Rattle.pending_stops.proofs.StoredWords.{contents-rank}
+use Rattle.resort.proofs.Insertion.{sortRanked-again}
 
 -- u is t, but for its terms, and of its side
 pub record Same (t u : StopEntry) : Type 0 where

@@ -22,7 +22,7 @@ use Rattle.chains.proofs.Members.{has-cases, all-has}
 use Rattle.chains.proofs.Ranks.{before-rank}
 use Rattle.chains.specs.Indices.{has}
 use Rattle.chains.specs.Rank.{rank}
-use Rattle.chains.proofs.Ascending.{Ascending, sortRanked-ascending}
+use Rattle.chains.proofs.Ascents.{Ascending, sortRanked-ascending}
 use Rattle.form_check.proofs.Groups.{members-ranks}
 use Rattle.chains.proofs.Ranked.{rankIn, chain-members}
 use Rattle.book.proofs.Members.{members}

@@ -8,7 +8,7 @@ use Rattle.pricelevel.specs.declared.Price.{Price}
 use Rattle.pricelevel.specs.declared.Side.{Side}
 use Rattle.pricelevel.specs.declared.Side.the-variants.{Buy, Sell}
 use Rattle.stop_terms.specs.Terms.{behind}
-use Rattle.book.proofs.Settling.{trailed-sound, trailed-fits}
+use Rattle.book.proofs.PointRecord.{trailed-sound, trailed-fits}
 use Rattle.book.specs.Steps.{isSide, trailedSlot, trailedOn}
 use Rattle.book.proofs.Stops.{trailed-still, trailed-keeps}
 use Rattle.book.specs.Valid.{Valid, SlotFits, Fits}

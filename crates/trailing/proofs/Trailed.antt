@@ -14,7 +14,7 @@ use Rattle.book.specs.declared.StoreChain.{StoreChain}
 use Rattle.book.specs.declared.StoreChain.the-variants.{Ordered}
 use Rattle.chains.specs.Rank.{rankAt}
 use Rattle.pending_stops.specs.Stored.{Stored}
-use Rattle.trailing.proofs.Ordering.{Resorted, stops-ready, watermarks-ready, sorted-stored, same-stored}
+use Rattle.trailing.proofs.SideChains.{Resorted, stops-ready, watermarks-ready, sorted-stored, same-stored}
 use Rattle.trailing.proofs.Slots.{trailedSlot-other, trailedSlot-keeps, trailedOn-valid, trailedOn-fits}
 use Rattle.trailing.specs.Trail.{Unsorted}
 

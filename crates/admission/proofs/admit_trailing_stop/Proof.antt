@@ -4,10 +4,10 @@ use native.Mathlib.Omega.{arith}
 use Rattle.error.proofs.Verdicts.{all-yes, one-no}
 use Rattle.book.proofs.Operations.{admission-admissible}
 use Rattle.book.specs.Words.{bookOf}
-use Rattle.pending_stops.proofs.Finding.{beyond, wellFormed-stored}
+use Rattle.pending_stops.proofs.Found.{beyond, wellFormed-stored}
 use Rattle.store_words.proofs.ChainsOf.{wellFormed-room}
 use Rattle.book.specs.Answers.{toldAdmission}
-use Rattle.admission.proofs.Admitting.{admit-refused, admit-done}
+use Rattle.admission.proofs.Admission.{admit-refused, admit-done}
 use borrow.Author.Needs.{needs}
 use Rattle.admission.proofs.admit_trailing_stop.Statement.{statement}
 use Rattle.admission.proofs.admit_trailing_stop.Tie as tie

@@ -8,7 +8,7 @@ use Rattle.error.specs.Verdict.{toldVerdict}
 use Rattle.book.specs.Store.{admissionQuestions}
 use Rattle.book.specs.Words.{bookOf}
 use Rattle.store_words.proofs.ChainsOf.{wellFormed-room}
-use Rattle.admission.proofs.Asking.{pending-asked, room-asked}
+use Rattle.admission.proofs.AdmissionQuestions.{pending-asked, room-asked}
 use Rattle.admission.proofs.ask_admission.Statement.{statement}
 use Rattle.admission.proofs.ask_admission.Tie as tie
 

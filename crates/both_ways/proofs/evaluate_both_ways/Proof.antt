@@ -1,7 +1,7 @@
 -- `both_ways::evaluate_both_ways` meets its contract: demand 3, from the contracts of both calls.
 use mathlib.Core.List.{map}
 use Rattle.pricelevel.specs.Price.{toPrice}
-use Rattle.both_ways.proofs.Deciding.{decided}
+use Rattle.both_ways.proofs.EndsAndRun.{decided}
 use borrow.Author.Needs.{needs}
 use Rattle.both_ways.proofs.evaluate_both_ways.Statement.{statement}
 use Rattle.both_ways.proofs.evaluate_both_ways.Tie as tie

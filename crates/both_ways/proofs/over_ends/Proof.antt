@@ -1,6 +1,6 @@
 -- `both_ways::over_ends` meets its contract: a run of no prices, or the segment over its ends.
 use Rattle.book.specs.Answers.{toldCounts}
-use Rattle.both_ways.proofs.Deciding.{without-price, with-prices}
+use Rattle.both_ways.proofs.EndsAndRun.{without-price, with-prices}
 use borrow.Author.Needs.{needs}
 use Rattle.both_ways.proofs.over_ends.Statement.{statement}
 use Rattle.both_ways.proofs.over_ends.Tie as tie

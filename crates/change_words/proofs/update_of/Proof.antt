@@ -1,7 +1,7 @@
 -- `change_words::update_of` meets its contract.
 use borrow.Author.Needs.{needs}
 use Rattle.host_words.specs.Arguments.{updateFrom, updateOf}
-use Rattle.host_words.proofs.Reading.{updateFrom-beyond}
+use Rattle.host_words.proofs.Arguments.{updateFrom-beyond}
 use Rattle.change_words.proofs.update_of.Statement.{statement}
 use Rattle.change_words.proofs.update_of.Tie as tie
 

@@ -3,13 +3,13 @@ use mathlib.Core.Path.{sym, _∙_}
 use native.Mathlib.Omega.{arith}
 use borrow.Author.Tests.{not-true, not-false}
 use Rattle.error.proofs.Verdicts.{all-yes, one-no}
-use Rattle.book.proofs.Changing.{change-changeable}
+use Rattle.book.proofs.ChangedBook.{change-changeable}
 use Rattle.book.specs.Words.{bookOf}
-use Rattle.pending_stops.proofs.Finding.{beyond, wellFormed-stored, missing, found, found-record, found-member}
+use Rattle.pending_stops.proofs.Found.{beyond, wellFormed-stored, missing, found, found-record, found-member}
 use Rattle.store_words.proofs.ChainsOf.{wellFormed-room}
 use Rattle.book.specs.Answers.{toldStop}
-use Rattle.admission.proofs.Asking.{next-word}
-use Rattle.changes.proofs.Updating.{outcome-parts, update-cancels, update-unformed, update-missing, update-refused, replaced-valid, replaced-fits, update-done}
+use Rattle.admission.proofs.AdmissionQuestions.{next-word}
+use Rattle.changes.proofs.Changes.{outcome-parts, update-cancels, update-unformed, update-missing, update-refused, replaced-valid, replaced-fits, update-done}
 use borrow.Author.Needs.{needs}
 use Rattle.changes.proofs.update_pending_stop.Statement.{statement}
 use Rattle.changes.proofs.update_pending_stop.Tie as tie

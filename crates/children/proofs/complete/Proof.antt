@@ -3,7 +3,7 @@ use Prim.Native.Nat.{_-_}
 use mathlib.Core.Path.{_∙_}
 use native.Mathlib.Omega.{arith}
 use Rattle.book.specs.Words.{bookOf}
-use Rattle.children.proofs.Completing.{Doing, doing-first, doing-next, doing-last, fills-completed}
+use Rattle.children.proofs.Completed.{Doing, doing-first, doing-next, doing-last, fills-completed}
 use Rattle.listing.proofs.Walked.{stored-book}
 use Rattle.listing.specs.Entries.{completed}
 use borrow.Author.Needs.{needs}

@@ -1,7 +1,7 @@
 -- `children::complete_entry` meets its contract: the words are those of the completed entry.
 use mathlib.Core.Path.{ap}
 use lib.ListN.{set}
-use Rattle.children.proofs.Completing.{completed-words}
+use Rattle.children.proofs.Completed.{completed-words}
 use borrow.Author.Needs.{needs}
 use borrow.Author.Needs.{needs}
 use Rattle.children.proofs.complete_entry.Statement.{statement}

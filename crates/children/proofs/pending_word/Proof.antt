@@ -1,5 +1,5 @@
 -- `children::pending_word` meets its contract, by the record that the search finds.
-use Rattle.children.proofs.Completing.{stored-wellFormed, stored-count, pending-none, pending-one}
+use Rattle.children.proofs.Completed.{stored-wellFormed, stored-count, pending-none, pending-one}
 use Rattle.children.proofs.pending_word.Statement.{statement}
 use Rattle.children.proofs.pending_word.Tie as tie
 

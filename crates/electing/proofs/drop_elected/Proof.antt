@@ -4,7 +4,7 @@ use mathlib.Core.Path.{sym, _∙_}
 use borrow.Author.Needs.{needs}
 use Rattle.chains.proofs.Cells.{cell-below}
 use Rattle.book.specs.declared.StoreChain.the-variants.{Ordered}
-use Rattle.electing.proofs.Dropping.{Passing, passing-first, passing-places, passing-end, passing-record, passing-left, passing-keep, passing-drop}
+use Rattle.electing.proofs.DropPass.{Passing, passing-first, passing-places, passing-end, passing-record, passing-left, passing-keep, passing-drop}
 use Rattle.electing.proofs.drop_elected.Statement.{statement}
 use Rattle.electing.proofs.drop_elected.Tie as tie
 

@@ -4,7 +4,7 @@ use mathlib.Core.Path.{sym, _∙_}
 use borrow.Author.Needs.{needs}
 use lib.ListN.{length-set}
 use Rattle.book.specs.Book.{pendingCount}
-use Rattle.pending_stops.proofs.Holding.{stored-holds}
+use Rattle.pending_stops.proofs.Contents.{stored-holds}
 use Rattle.book.specs.Chains.{chainsOf}
 use Rattle.electing.proofs.Election.{election-none, election-dropped, election-room, election-fewer, election-stored}
 use Rattle.electing.proofs.take_elected.Statement.{statement}

@@ -7,7 +7,7 @@ use Rattle.error.proofs.Questions.{asked-next, asked-first, first-no}
 use Rattle.error.specs.Verdict.{toldVerdict}
 use Rattle.book.specs.Calls.{passQuestions}
 use Rattle.store_words.proofs.ChainsOf.{wellFormed-room}
-use Rattle.evaluation.proofs.Asking.{count-word}
+use Rattle.evaluation.proofs.Questions.{count-word}
 use Rattle.evaluate_pass.proofs.ask_pass.Statement.{statement}
 use Rattle.evaluate_pass.proofs.ask_pass.Tie as tie
 

@@ -1,7 +1,7 @@
 -- `evaluate_pass::pass_over` meets its contract.
 use native.Mathlib.Omega.{arith}
 use Rattle.book.specs.Words.{bookOf}
-use Rattle.pending_stops.proofs.Finding.{beyond, wellFormed-stored}
+use Rattle.pending_stops.proofs.Found.{beyond, wellFormed-stored}
 use Rattle.store_words.proofs.ChainsOf.{wellFormed-room}
 use Rattle.evaluation.proofs.Passes.{pass-formed, pass-elected, pass-script, passed-done}
 use borrow.Author.Needs.{needs}

@@ -7,7 +7,7 @@ use Rattle.error.proofs.Questions.{asked-next, asked-both, asked-first, first-n
 use Rattle.error.specs.Verdict.{toldVerdict}
 use Rattle.book.specs.Calls.{segmentQuestions}
 use Rattle.store_words.proofs.ChainsOf.{wellFormed-room}
-use Rattle.evaluation.proofs.Asking.{count-word, count-few}
+use Rattle.evaluation.proofs.Questions.{count-word, count-few}
 use Rattle.evaluate_segment.proofs.ask_segment.Statement.{statement}
 use Rattle.evaluate_segment.proofs.ask_segment.Tie as tie
 

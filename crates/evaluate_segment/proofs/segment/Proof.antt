@@ -3,10 +3,10 @@ use native.Mathlib.Omega.{arith}
 use Rattle.error.proofs.Verdicts.{all-yes, one-no}
 use Rattle.book.specs.Evaluation.{segment}
 use Rattle.book.specs.Words.{bookOf}
-use Rattle.pending_stops.proofs.Finding.{beyond, wellFormed-stored}
+use Rattle.pending_stops.proofs.Found.{beyond, wellFormed-stored}
 use Rattle.store_words.proofs.ChainsOf.{wellFormed-room}
 use Rattle.book.specs.Answers.{toldCounts}
-use Rattle.evaluation.proofs.Asking.{segment-formed, segment-room}
+use Rattle.evaluation.proofs.Questions.{segment-formed, segment-room}
 use Rattle.evaluation.proofs.Outcomes.{from-start, segment-refused, segment-within, segment-done}
 use borrow.Author.Needs.{needs}
 use Rattle.evaluate_segment.proofs.segment.Statement.{statement}

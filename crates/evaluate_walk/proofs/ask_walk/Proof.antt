@@ -8,7 +8,7 @@ use Rattle.error.proofs.Questions.{asked-next, asked-both, asked-first, first-n
 use Rattle.error.specs.Verdict.{toldVerdict}
 use Rattle.book.specs.Calls.{walkQuestions}
 use Rattle.store_words.proofs.ChainsOf.{wellFormed-room}
-use Rattle.evaluation.proofs.Asking.{count-word}
+use Rattle.evaluation.proofs.Questions.{count-word}
 use Rattle.evaluate_walk.proofs.ask_walk.Statement.{statement}
 use Rattle.evaluate_walk.proofs.ask_walk.Tie as tie
 

@@ -5,11 +5,11 @@ use lib.ListN.{length-map}
 use Rattle.error.proofs.Verdicts.{all-yes, one-no}
 use Rattle.book.specs.Evaluation.{walk}
 use Rattle.book.specs.Words.{bookOf}
-use Rattle.pending_stops.proofs.Finding.{beyond, wellFormed-stored}
+use Rattle.pending_stops.proofs.Found.{beyond, wellFormed-stored}
 use Rattle.pricelevel.specs.Price.{toPrice}
 use Rattle.store_words.proofs.ChainsOf.{wellFormed-room}
 use Rattle.book.specs.Answers.{toldCounts}
-use Rattle.evaluation.proofs.Asking.{walk-formed, walk-room, walk-prices}
+use Rattle.evaluation.proofs.Questions.{walk-formed, walk-room, walk-prices}
 use Rattle.evaluation.proofs.Outcomes.{from-start, walk-refused, walk-within, walk-done}
 use borrow.Author.Needs.{needs}
 use Rattle.evaluate_walk.proofs.walk.Statement.{statement}

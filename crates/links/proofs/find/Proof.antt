@@ -3,9 +3,9 @@ use mathlib.Core.Path.{sym, _∙_}
 use native.Mathlib.Omega.{arith}
 use borrow.Author.Needs.{needs}
 use Rattle.chains.specs.Links.{spot}
-use Rattle.chains.proofs.Linking.{spot-stop, spot-on}
+use Rattle.chains.proofs.OneChain.{spot-stop, spot-on}
 use Rattle.chains.proofs.Members.{has-none, has-rest}
-use Rattle.chains.proofs.Walking.{At, at-first, at-next, at-past, still}
+use Rattle.chains.proofs.Walks.{At, at-first, at-next, at-past, still}
 use Rattle.links.proofs.find.Statement.{statement}
 use Rattle.links.proofs.find.Tie as tie
 

@@ -4,9 +4,9 @@ use native.Mathlib.Omega.{arith}
 use borrow.Author.Needs.{needs}
 use Rattle.chains.specs.Links.{place}
 use Rattle.chains.specs.Rank.{rankAt}
-use Rattle.chains.proofs.Linking.{place-end, place-stop, place-on}
+use Rattle.chains.proofs.OneChain.{place-end, place-stop, place-on}
 use Rattle.chains.proofs.Ranks.{ltb-told}
-use Rattle.chains.proofs.Walking.{At, at-first, at-end, at-next, at-past, any}
+use Rattle.chains.proofs.Walks.{At, at-first, at-end, at-next, at-past, any}
 use Rattle.links.proofs.seek.Statement.{statement}
 use Rattle.links.proofs.seek.Tie as tie
 

@@ -6,8 +6,8 @@ use Rattle.book.specs.Evaluation.{fillAt}
 use Rattle.book.specs.declared.Chain.the-variants.{ByStop}
 use Rattle.book.specs.Chains.{linkOf}
 use Rattle.listing.proofs.Along.{At, at-length, at-end, at-record, at-left, at-stop, at-room, at-next}
-use Rattle.listing.proofs.Leading.{electedStop, elected-told}
-use Rattle.listing.proofs.Noting.{fill-room, fill-written}
+use Rattle.listing.proofs.Leaders.{electedStop, elected-told}
+use Rattle.listing.proofs.Notes.{fill-room, fill-written}
 use Rattle.listing.proofs.Walked.{head-few, stored-head, walked, walk-start, walk-done, elected-walked}
 use Rattle.listing.specs.Entries.{fillWords, fillsOf}
 use borrow.Author.Needs.{needs}

@@ -1,7 +1,7 @@
 -- `listing::list_fill` meets its contract: the words are those of the fill.
 use mathlib.Core.Path.{refl, ap}
 use lib.ListN.{set}
-use Rattle.listing.proofs.Noting.{fill-words}
+use Rattle.listing.proofs.Notes.{fill-words}
 use borrow.Author.Needs.{needs}
 use borrow.Author.Needs.{needs}
 use Rattle.listing.proofs.list_fill.Statement.{statement}

@@ -5,7 +5,7 @@ use Rattle.book.specs.Evaluation.{movedOn}
 use Rattle.book.specs.declared.Chain.the-variants.{ByWatermark}
 use Rattle.book.specs.Chains.{linkOf}
 use Rattle.listing.proofs.Along.{At, at-length, at-end, at-record, at-left, at-stop, at-room, at-next}
-use Rattle.listing.proofs.Leading.{watermarkBehind, behind-told}
+use Rattle.listing.proofs.Leaders.{watermarkBehind, behind-told}
 use Rattle.listing.proofs.Walked.{head-few, stored-head, walked, walk-start, walk-done, moved-walked}
 use Rattle.listing.specs.Entries.{movedWords, movesOf}
 use borrow.Author.Needs.{needs}

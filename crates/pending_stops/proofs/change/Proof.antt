@@ -1,9 +1,9 @@
 -- `pending_stops::change` meets its contract.
 use native.Mathlib.Omega.{arith}
 use Rattle.book.specs.Chains.{chainsOf}
-use Rattle.pending_stops.proofs.Placing.{chainsWithout}
-use Rattle.pending_stops.proofs.Replacing.{replacing-on, replacing-record, replacing-ready, replaced-length, replaced-stored}
-use Rattle.pending_stops.proofs.Vacating.{stored-room}
+use Rattle.pending_stops.proofs.Unchained.{chainsWithout}
+use Rattle.pending_stops.proofs.Replacement.{replacing-on, replacing-record, replacing-ready, replaced-length, replaced-stored}
+use Rattle.pending_stops.proofs.Vacancy.{stored-room}
 use Rattle.pending_stops.specs.Stored.{replaced}
 use Rattle.pending_stops.proofs.change.Statement.{statement}
 use Rattle.pending_stops.proofs.change.Tie as tie

@@ -4,9 +4,9 @@ use native.Mathlib.Omega.{arith}
 use lib.ListN.{length-set}
 use Rattle.book.specs.Store.{admitted, newEntry}
 use Rattle.book.specs.Chains.{chainsOf}
-use Rattle.pending_stops.proofs.Occupying.{free-first, count-room, next-word, occupying-chained, occupying-record, occupying-ready, occupied-length, occupied-stored}
-use Rattle.pending_stops.proofs.Placing.{chainsWithout}
-use Rattle.pending_stops.proofs.Vacating.{stored-room}
+use Rattle.pending_stops.proofs.Occupation.{free-first, count-room, next-word, occupying-chained, occupying-record, occupying-ready, occupied-length, occupied-stored}
+use Rattle.pending_stops.proofs.Unchained.{chainsWithout}
+use Rattle.pending_stops.proofs.Vacancy.{stored-room}
 use Rattle.pending_stops.proofs.occupy.Statement.{statement}
 use Rattle.pending_stops.proofs.occupy.Tie as tie
 

@@ -1,8 +1,8 @@
 -- `pending_stops::vacate` meets its contract.
 use native.Mathlib.Omega.{arith}
 use Rattle.book.specs.Chains.{chainsOf}
-use Rattle.pending_stops.proofs.Placing.{chainsWithout}
-use Rattle.pending_stops.proofs.Vacating.{stored-room, count-some, on1, record2, ready3, blank3, vacated-length, vacated-stored}
+use Rattle.pending_stops.proofs.Unchained.{chainsWithout}
+use Rattle.pending_stops.proofs.Vacancy.{stored-room, count-some, on1, record2, ready3, blank3, vacated-length, vacated-stored}
 use Rattle.pending_stops.proofs.vacate.Statement.{statement}
 use Rattle.pending_stops.proofs.vacate.Tie as tie
 

@@ -1,5 +1,5 @@
 -- `points::elect_both` meets its contract.
-use Rattle.points.proofs.Stepping.{first-room, second-room, elected-both}
+use Rattle.points.proofs.Steps.{first-room, second-room, elected-both}
 use borrow.Author.Needs.{needs}
 use Rattle.points.proofs.elect_both.Statement.{statement}
 use Rattle.points.proofs.elect_both.Tie as tie

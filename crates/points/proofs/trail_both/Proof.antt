@@ -1,6 +1,6 @@
 -- `points::trail_both` meets its contract.
 use native.Mathlib.Omega.{arith}
-use Rattle.points.proofs.Stepping.{trailed-both, moves-few}
+use Rattle.points.proofs.Steps.{trailed-both, moves-few}
 use borrow.Author.Needs.{needs}
 use Rattle.points.proofs.trail_both.Statement.{statement}
 use Rattle.points.proofs.trail_both.Tie as tie

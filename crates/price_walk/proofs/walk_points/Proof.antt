@@ -1,7 +1,7 @@
 -- `price_walk::walk_points` meets its contract: each turn is a point at one more price.
 use Prim.Native.Nat.{_-_}
 use native.Mathlib.Omega.{arith}
-use Rattle.price_walk.proofs.Walking.{Walked, walked-first, walked-room, point-moves-few, walked-next, walked-last}
+use Rattle.price_walk.proofs.Walks.{Walked, walked-first, walked-room, point-moves-few, walked-next, walked-last}
 use borrow.Author.Needs.{needs}
 use Rattle.price_walk.proofs.walk_points.Statement.{statement}
 use Rattle.price_walk.proofs.walk_points.Tie as tie

@@ -2,7 +2,7 @@
 use Prim.Native.Nat.{_-_}
 use native.Mathlib.Omega.{arith}
 use lib.ListN.{length, length-set}
-use Rattle.chains.proofs.Copying.{Copied, copied-none, copied-more, copied-all}
+use Rattle.chains.proofs.Copies.{Copied, copied-none, copied-more, copied-all}
 use Rattle.records.proofs.put_words.Statement.{statement}
 use Rattle.records.proofs.put_words.Tie as tie
 

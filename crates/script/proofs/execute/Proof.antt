@@ -6,8 +6,8 @@ use native.Mathlib.Omega.{arith}
 use lib.ListN.{length}
 use Rattle.book.specs.declared.Elected.{Elected}
 use Rattle.script.specs.Execute.{Flags}
-use Rattle.script.proofs.Executing.{Progress, progress-start, progress-next, progress-end, progress-room}
-use Rattle.script.proofs.Queueing.{enqueued-length}
+use Rattle.script.proofs.Executions.{Progress, progress-start, progress-next, progress-end, progress-room}
+use Rattle.script.proofs.Queue.{enqueued-length}
 use borrow.Author.Needs.{needs}
 use Rattle.script.proofs.execute.Statement.{statement}
 use Rattle.script.proofs.execute.Tie as tie

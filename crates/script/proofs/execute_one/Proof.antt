@@ -1,7 +1,7 @@
 -- `script::execute_one` meets its contract.
 use native.Mathlib.Omega.{arith}
 use lib.ListN.{length-drop}
-use Rattle.script.proofs.Advancing.{entry-left, one-pending, one-missing, one-entry}
+use Rattle.script.proofs.OneExecution.{entry-left, one-pending, one-missing, one-entry}
 use borrow.Author.Needs.{needs}
 use Rattle.script.proofs.execute_one.Statement.{statement}
 use Rattle.script.proofs.execute_one.Tie as tie

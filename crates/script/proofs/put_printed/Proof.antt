@@ -1,5 +1,5 @@
 -- `script::put_printed` meets its contract.
-use Rattle.script.proofs.Printing.{printed-none, printed-after, printed-first}
+use Rattle.script.proofs.PrintedSegment.{printed-none, printed-after, printed-first}
 use borrow.Author.Needs.{needs}
 use Rattle.script.proofs.put_printed.Statement.{statement}
 use Rattle.script.proofs.put_printed.Tie as tie

@@ -2,7 +2,7 @@
 use Prim.Native.Nat.{_-_}
 use mathlib.Core.Path.{sym}
 use lib.ListN.{length}
-use Rattle.script.proofs.Forming.{FormedFrom, formed-start, formed-end, formed-rest, formed-not-printed, formed-not-present, formed-on}
+use Rattle.script.proofs.ScriptForm.{FormedFrom, formed-start, formed-end, formed-rest, formed-not-printed, formed-not-present, formed-on}
 use borrow.Author.Needs.{needs}
 use Rattle.script.proofs.script_formed.Statement.{statement}
 use Rattle.script.proofs.script_formed.Tie as tie

@@ -3,7 +3,7 @@ use mathlib.Core.Path.{sym}
 use native.Mathlib.Omega.{arith}
 use Rattle.print_path.specs.Segments.{toldNext}
 use Rattle.script.specs.Queue.{segmentFrom}
-use Rattle.script.proofs.Queueing.{queued-end, queued-first}
+use Rattle.script.proofs.Queue.{queued-end, queued-first}
 use borrow.Author.Needs.{needs}
 use Rattle.segment_queue.proofs.segment_at.Statement.{statement}
 use Rattle.segment_queue.proofs.segment_at.Tie as tie

@@ -1,5 +1,5 @@
 -- `segments::list_moves` meets its contract.
-use Rattle.points.proofs.Stepping.{sells-room, buys-room, moved-both}
+use Rattle.points.proofs.Steps.{sells-room, buys-room, moved-both}
 use borrow.Author.Needs.{needs}
 use Rattle.segments.proofs.list_moves.Statement.{statement}
 use Rattle.segments.proofs.list_moves.Tie as tie

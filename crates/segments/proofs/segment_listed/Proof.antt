@@ -1,8 +1,8 @@
 -- `segments::segment_listed` meets its contract.
 use mathlib.Core.Path.{sym, _∙_}
 use native.Mathlib.Omega.{arith}
-use Rattle.points.proofs.Pointing.{room-left, point-few}
-use Rattle.segments.proofs.Segmenting.{segment-one, segment-two, first-moves, second-moves, notes-one, notes-two, listed}
+use Rattle.points.proofs.Points.{room-left, point-few}
+use Rattle.segments.proofs.TwoPoints.{segment-one, segment-two, first-moves, second-moves, notes-one, notes-two, listed}
 use borrow.Author.Needs.{needs}
 use Rattle.segments.proofs.segment_listed.Statement.{statement}
 use Rattle.segments.proofs.segment_listed.Tie as tie

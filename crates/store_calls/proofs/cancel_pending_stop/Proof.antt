@@ -6,8 +6,8 @@ use borrow.Author.Needs.{needs}
 use Rattle.book.specs.Words.{bookOf}
 use Rattle.store_words.proofs.ChainsOf.{wellFormed-room}
 use Rattle.book.specs.Answers.{toldStop}
-use Rattle.pending_stops.proofs.Finding.{beyond, wellFormed-stored, missing, found, found-record, found-member}
-use Rattle.store_calls.proofs.Cancelling.{cancel-unformed, cancel-missing, cancel-refused-as, cancel-done}
+use Rattle.pending_stops.proofs.Found.{beyond, wellFormed-stored, missing, found, found-record, found-member}
+use Rattle.store_calls.proofs.Cancel.{cancel-unformed, cancel-missing, cancel-refused-as, cancel-done}
 use Rattle.store_calls.proofs.cancel_pending_stop.Statement.{statement}
 use Rattle.store_calls.proofs.cancel_pending_stop.Tie as tie
 

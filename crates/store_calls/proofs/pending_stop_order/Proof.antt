@@ -5,8 +5,8 @@ use borrow.Author.Tests.{not-true, not-false}
 use borrow.Author.Needs.{needs}
 use Rattle.store_words.proofs.ChainsOf.{wellFormed-room}
 use Rattle.book.specs.Answers.{toldFind}
-use Rattle.pending_stops.proofs.Finding.{missing, found, found-record}
-use Rattle.store_calls.proofs.Cancelling.{find-unformed, find-missing, find-found}
+use Rattle.pending_stops.proofs.Found.{missing, found, found-record}
+use Rattle.store_calls.proofs.Cancel.{find-unformed, find-missing, find-found}
 use Rattle.store_calls.proofs.pending_stop_order.Statement.{statement}
 use Rattle.store_calls.proofs.pending_stop_order.Tie as tie
 

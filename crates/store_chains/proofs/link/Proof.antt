@@ -1,7 +1,7 @@
 -- `store_chains::link` meets its contract: two chains, one after the other.
 use borrow.Author.Needs.{needs}
 use Rattle.chains.proofs.Kept.{kept-trans}
-use Rattle.chains.proofs.Moving.{ready-outside, linked-half, linked-both}
+use Rattle.chains.proofs.ChainMoves.{ready-outside, linked-half, linked-both}
 use Rattle.store_chains.proofs.link.Statement.{statement}
 use Rattle.store_chains.proofs.link.Tie as tie
 

@@ -1,7 +1,7 @@
 -- `store_chains::pop` meets its contract.
 use native.Mathlib.Omega.{arith}
 use borrow.Author.Needs.{needs}
-use Rattle.chains.proofs.Moving.{popped-first, popped-record, popped}
+use Rattle.chains.proofs.ChainMoves.{popped-first, popped-record, popped}
 use Rattle.store_chains.proofs.pop.Statement.{statement}
 use Rattle.store_chains.proofs.pop.Tie as tie
 

@@ -2,7 +2,7 @@
 use native.Mathlib.Omega.{arith}
 use borrow.Author.Needs.{needs}
 use lib.ListN.{length-set}
-use Rattle.chains.proofs.Moving.{pushed}
+use Rattle.chains.proofs.ChainMoves.{pushed}
 use Rattle.store_chains.proofs.push.Statement.{statement}
 use Rattle.store_chains.proofs.push.Tie as tie
 

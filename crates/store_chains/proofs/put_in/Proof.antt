@@ -2,7 +2,7 @@
 use borrow.Author.Needs.{needs}
 use Rattle.book.specs.declared.StoreChain.the-variants.{Ordered}
 use Rattle.chains.proofs.Chained.{chained-walk}
-use Rattle.chains.proofs.Moving.{put-into}
+use Rattle.chains.proofs.ChainMoves.{put-into}
 use Rattle.store_chains.proofs.put_in.Statement.{statement}
 use Rattle.store_chains.proofs.put_in.Tie as tie
 

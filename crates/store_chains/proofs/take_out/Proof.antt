@@ -2,7 +2,7 @@
 use borrow.Author.Needs.{needs}
 use Rattle.book.specs.declared.StoreChain.the-variants.{Ordered}
 use Rattle.chains.proofs.Chained.{chained-record, chained-walk}
-use Rattle.chains.proofs.Moving.{taken-out}
+use Rattle.chains.proofs.ChainMoves.{taken-out}
 use Rattle.store_chains.proofs.take_out.Statement.{statement}
 use Rattle.store_chains.proofs.take_out.Tie as tie
 

@@ -1,7 +1,7 @@
 -- `store_chains::unlink` meets its contract: two chains, one after the other.
 use borrow.Author.Needs.{needs}
 use Rattle.chains.proofs.Kept.{kept-trans}
-use Rattle.chains.proofs.Moving.{unlinked-half, unlinked}
+use Rattle.chains.proofs.ChainMoves.{unlinked-half, unlinked}
 use Rattle.store_chains.proofs.unlink.Statement.{statement}
 use Rattle.store_chains.proofs.unlink.Tie as tie
 

@@ -1,6 +1,6 @@
 -- `store_layout::empty_header` meets its contract.
 use mathlib.Core.Path.{sym}
-use Rattle.store_words.proofs.Laying.{header-empty}
+use Rattle.store_words.proofs.EmptyWords.{header-empty}
 use Rattle.store_layout.proofs.empty_header.Statement.{statement}
 use Rattle.store_layout.proofs.empty_header.Tie as tie
 

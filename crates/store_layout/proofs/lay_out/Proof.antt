@@ -4,7 +4,7 @@ use mathlib.Core.Path.{ap, _∙_}
 use lib.ListN.{length}
 use native.Mathlib.Omega.{arith}
 use borrow.Author.Needs.{needs}
-use Rattle.store_words.proofs.Laying.{header-empty, Laid, laid-none, laid-length, laid-record, laid-more, laid-all}
+use Rattle.store_words.proofs.EmptyWords.{header-empty, Laid, laid-none, laid-length, laid-record, laid-more, laid-all}
 use Rattle.store_layout.proofs.lay_out.Statement.{statement}
 use Rattle.store_layout.proofs.lay_out.Tie as tie
 

@@ -3,7 +3,7 @@ use mathlib.Core.Path.{sym, _∙_}
 use borrow.Author.Tests.{not-true, not-false}
 use borrow.Author.Needs.{needs}
 use Rattle.book.specs.Answers.{toldLayout}
-use Rattle.store_words.proofs.Laying.{inRange-room, layOut-no, layOut-yes}
+use Rattle.store_words.proofs.EmptyWords.{inRange-room, layOut-no, layOut-yes}
 use Rattle.store_layout.proofs.layout_store.Statement.{statement}
 use Rattle.store_layout.proofs.layout_store.Tie as tie
 

@@ -2,7 +2,7 @@
 use mathlib.Core.Path.{sym}
 use native.Mathlib.Omega.{arith}
 use borrow.Author.Needs.{needs}
-use Rattle.store_words.proofs.Laying.{nextIn-rising, nextIn-rising-last}
+use Rattle.store_words.proofs.EmptyWords.{nextIn-rising, nextIn-rising-last}
 use Rattle.store_layout.proofs.next_free.Statement.{statement}
 use Rattle.store_layout.proofs.next_free.Tie as tie
 

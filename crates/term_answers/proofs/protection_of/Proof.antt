@@ -2,7 +2,7 @@
 use mathlib.Core.Path.{ap, sym, _∙_}
 use borrow.Author.Needs.{needs}
 use Rattle.stop_protection.specs.Collar.{toldNew}
-use Rattle.host_words.proofs.Reading.{protection-made, protection-none}
+use Rattle.host_words.proofs.Arguments.{protection-made, protection-none}
 use Rattle.term_answers.proofs.protection_of.Statement.{statement}
 use Rattle.term_answers.proofs.protection_of.Tie as tie
 

@@ -2,7 +2,7 @@
 use native.Mathlib.Omega.{arith}
 use borrow.Author.Needs.{needs}
 use Rattle.trailing.proofs.Trailed.{trailed-stops, trailed-watermarks, trailed-stored, trailed-same}
-use Rattle.trailing.proofs.Walking.{begins, names, idle-stored}
+use Rattle.trailing.proofs.TrailWalk.{begins, names, idle-stored}
 use Rattle.trailing.proofs.trail.Statement.{statement}
 use Rattle.trailing.proofs.trail.Tie as tie
 

@@ -3,7 +3,7 @@ use native.Mathlib.Omega.{arith}
 use borrow.Author.Needs.{needs}
 use lib.ListN.{length-set}
 use Rattle.chains.proofs.Cells.{cell-end, cell-plus}
-use Rattle.trailing.proofs.Writing.{terms-written, moves-not, moves-so}
+use Rattle.trailing.proofs.TrailedWords.{terms-written, moves-not, moves-so}
 use Rattle.trailing.proofs.trail_record.Statement.{statement}
 use Rattle.trailing.proofs.trail_record.Tie as tie
 

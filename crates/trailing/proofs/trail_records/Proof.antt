@@ -3,8 +3,8 @@ use native.Mathlib.Omega.{arith}
 use borrow.Author.Needs.{needs}
 use Rattle.book.specs.declared.Chain.the-variants.{ByWatermark}
 use Rattle.chains.specs.Rank.{pair}
-use Rattle.resort.proofs.Relinking.{record-cell}
-use Rattle.trailing.proofs.Walking.{Trailing, trailing-begins, names, turn-ends, turn-sorted, turn-record, turn-left, turn-most, turn-written, turn-on}
+use Rattle.resort.proofs.Relinks.{record-cell}
+use Rattle.trailing.proofs.TrailWalk.{Trailing, trailing-begins, names, turn-ends, turn-sorted, turn-record, turn-left, turn-most, turn-written, turn-on}
 use Rattle.trailing.proofs.trail_records.Statement.{statement}
 use Rattle.trailing.proofs.trail_records.Tie as tie
 
