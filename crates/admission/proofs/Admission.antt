@@ -21,7 +21,8 @@ use Rattle.book.specs.declared.PrintPath.{PrintPath}
 use Rattle.pending_stops.proofs.Found.{beyond, stored-words, wellFormed-stored, count-word}
 use Rattle.pending_stops.specs.Stored.{Stored}
 
-module _ (kill : Bool) (trade : LastPrice) (id : Id) (terms : StopTerms) (quantity : Quantity) (w : List ℕ) (path : PrintPath) where
+module _ (kill : Bool) (trade : LastPrice) (id : Id) (terms : StopTerms) (quantity : Quantity) (w : List ℕ)
+    (path : PrintPath) where
   abbrev outcome : PathOutcome Seq
   outcome = admit kill trade id terms quantity w path
 
@@ -33,7 +34,8 @@ module _ (kill : Bool) (trade : LastPrice) (id : Id) (terms : StopTerms) (quanti
   unfolding admit decide
   admit-refused k h = (rw (← h), (rw (← h), rw (← h)))
 
-  pub admit-done : none ≡ firstNo (admissionQuestions kill trade id terms quantity w) → (q : Seq) → q .0 ≡ bookOf w .next
+  pub admit-done : none ≡ firstNo (admissionQuestions kill trade id terms quantity w) → (q : Seq)
+      → q .0 ≡ bookOf w .next
       → (after : PrintPath) → after ≡ cond (eqb (getD w 1 0) 0) (closed path) path
       → (u : List ℕ) → Stored (getD w 0 0) u (admitted (newEntry id terms quantity (bookOf w)) (bookOf w)) (beyond w)
       → (accepted q ≡ outcome .answer) × ((after ≡ outcome .path) × (u ≡ outcome .words))
@@ -41,5 +43,9 @@ module _ (kill : Bool) (trade : LastPrice) (id : Id) (terms : StopTerms) (quanti
   admit-done h q e after p u st =
       let formed = admission-admissible kill trade id terms quantity w (sym h) .0 in (
         rw (← h) (ap (λ (s : ℕ). accepted (told s)) e),
-        (rw (← h, ← count-word (wellFormed-stored w formed)) p, rw (← h) (stored-words w u (admitted (newEntry id terms quantity (bookOf w)) (bookOf w)) st)),
+        (
+          rw (← h, ← count-word (wellFormed-stored w formed)) p,
+          rw (← h)
+              (stored-words w u (admitted (newEntry id terms quantity (bookOf w)) (bookOf w)) st),
+        ),
       )

@@ -1,5 +1,6 @@
-// The calls on a store of pending stops: admission, change, cancel, search, clear and totals, from orderbook-rs's stop_orders.rs.
-// Each goes through its questions in their order and then does one operation; a refused call alters nothing.
+// The calls on a store of pending stops: admission, change, cancel, search, clear and totals, from orderbook-rs's
+// stop_orders.rs. Each goes through its questions in their order and then does one operation; a refused call alters
+// nothing.
 use book::Admission;
 use book::AdmissionAnswer;
 use book::LastPrice;
@@ -89,9 +90,9 @@ fn path_after(path: PrintPath, pending: u64) -> PrintPath
     path
 }
 
-// Admits a stop. Refused: the store is not well formed (1); the kill switch is on (3); quantity (4) or trail (5) zero; the stop
-// beyond its watermark (6) or elected by the last trade (7); its identity pending (8); the trail off the tick (9); no free record (10);
-// no sequence left (11).
+// Admits a stop. Refused: the store is not well formed (1); the kill switch is on (3); quantity (4) or trail (5) zero;
+// the stop beyond its watermark (6) or elected by the last trade (7); its identity pending (8); the trail off the tick
+// (9); no free record (10); no sequence left (11).
 pub fn admit_trailing_stop(
     s: &mut [u64],
     path: PrintPath,

@@ -1,4 +1,5 @@
--- An accepted call on the store leaves a well-formed store, which reads as the book that the call is to leave, with the words beyond it.
+-- An accepted call on the store leaves a well-formed store, which reads as the book that the call is to leave, with the
+-- words beyond it.
 use Prim.Native.Nat.{ℕ, _<_, _^_}
 use mathlib.Core.Path.{_≡_, refl, sym, _∙_}
 use mathlib.Core.Bool.{Bool, true, cond, _&&_}
@@ -35,8 +36,10 @@ abbrev pub Accepted : {B : Type 0} → Answer B → Type 0
 Accepted {B} a = (v : B) × (a ≡ accepted v)
 
 -- an accepted outcome went through all its questions: what is left there, with the value that it answers, is left
-pub decide-accepted : {A B : Type 0} (answer : A → Answer B) (Left : A → B → Type 0) (x : Option ℕ) (refusal : ℕ → A) (acceptance : A)
-    → ((k : ℕ) → answer (refusal k) ≡ refused k) → (x ≡ none → (a : Accepted (answer acceptance)) → Left acceptance (a .0))
+pub decide-accepted : {A B : Type 0} (answer : A → Answer B) (Left : A → B → Type 0) (x : Option ℕ) (refusal : ℕ → A)
+    (acceptance : A)
+    → ((k : ℕ) → answer (refusal k) ≡ refused k)
+    → (x ≡ none → (a : Accepted (answer acceptance)) → Left acceptance (a .0))
     → (a : Accepted (answer (decide x refusal acceptance))) → Left (decide x refusal acceptance) (a .0)
 decide-accepted answer Left x refusal acceptance h g =
     decide-outcomes (λ o. (a : Accepted (answer o)) → Left o (a .0)) x refusal acceptance
@@ -47,7 +50,8 @@ formed-question : (w : List ℕ) → firstNo (question 1 (wellFormed w) ∷ []) 
 formed-question w e = firstNo-none _ e .0
 
 -- a book of as many records as the store has takes its place
-pub book-stored : (b : Book) (w : List ℕ) → wellFormed w ≡ true → (Valid (bookOf w) → Valid b) → (Fits (bookOf w) → Fits b)
+pub book-stored : (b : Book) (w : List ℕ) → wellFormed w ≡ true → (Valid (bookOf w) → Valid b)
+    → (Fits (bookOf w) → Fits b)
     → length (b .slots) ≡ length (bookOf w .slots) → Stored (getD w 0 0) b w (storedBook b w)
 book-stored b w e v f n =
     storedBook-wellFormed b w e (v (wellFormed-valid w e)) (f (wellFormed-fits w e)) (n ∙ bookOf-slots-length w)
@@ -55,15 +59,18 @@ book-stored b w e v f n =
 ------------------------------------------------------------------------
 -- Layout and clear
 
-pub layOut-stored : (n tick : ℕ) (w : List ℕ) → tick < 2 ^ 64 → Accepted (layOut n tick w .answer) → Stored n (emptyBook n tick) w (layOut n tick w .words)
+pub layOut-stored : (n tick : ℕ) (w : List ℕ) → tick < 2 ^ 64 → Accepted (layOut n tick w .answer)
+    → Stored n (emptyBook n tick) w (layOut n tick w .words)
 unfolding layOut
 layOut-stored n tick w fits =
     let asked = question 2 (leb 1 n && (leb n mostRecords && leb (storeLength n) (length w))) ∷ [] in
-    decide-accepted (λ (o : StoreOutcome (Unit {0})). o .answer) (λ o v. Stored n (emptyBook n tick) w (o .words)) _ _ _ (λ k. refl)
+    decide-accepted (λ (o : StoreOutcome (Unit {0})). o .answer)
+    (λ o v. Stored n (emptyBook n tick) w (o .words)) _ _ _ (λ k. refl)
     (λ e a.
     let h = and-parts (leb 1 n) _ (firstNo-none asked e .0) in
     let g = and-parts (leb n mostRecords) _ (h .1) in
-    stored-wellFormed n (emptyBook n tick) w (leb-true _ _ (g .1)) (emptyBook-valid n tick (leb-true _ _ (h .0)) (leb-true _ _ (g .0)))
+    stored-wellFormed n (emptyBook n tick) w (leb-true _ _ (g .1))
+    (emptyBook-valid n tick (leb-true _ _ (h .0)) (leb-true _ _ (g .0)))
     (emptyBook-fits n tick fits) (emptyBook-length n tick))
 
 pub clear-stored : (w : List ℕ) (path : PrintPath) → Accepted (clear w path .answer)
@@ -72,9 +79,11 @@ unfolding clear bookOf
 clear-stored w path =
     let n = getD w 0 0 in
     let tick = getD w 3 0 in
-    decide-accepted (λ (o : PathOutcome (Unit {0})). o .answer) (λ o v. Stored n (emptyBook n tick) w (o .words)) _ _ _ (λ k. refl)
+    decide-accepted (λ (o : PathOutcome (Unit {0})). o .answer)
+    (λ o v. Stored n (emptyBook n tick) w (o .words)) _ _ _ (λ k. refl)
     (λ e a. book-stored (emptyBook n tick) w (formed-question w e)
-    (λ v. emptyBook-valid n tick (rw bookOf-slots-length at (v .some-records)) (rw bookOf-slots-length at (v .few-records)))
+    (λ v. emptyBook-valid n tick (rw bookOf-slots-length at (v .some-records))
+    (rw bookOf-slots-length at (v .few-records)))
     (λ f. emptyBook-fits n tick (f .tick)) (emptyBook-length n tick ∙ sym (bookOf-slots-length w)))
 
 ------------------------------------------------------------------------
@@ -89,7 +98,8 @@ pub record AdmissionFits (id : Id) (terms : StopTerms) (amount : Quantity) : Typ
   pub trail : terms .trail < 2 ^ 64
   pub quantity : amount .0 < 2 ^ 64
 
-newEntry-fits : (id : Id) (terms : StopTerms) (quantity : Quantity) (b : Book) → AdmissionFits id terms quantity → Fits b → StopFits (newEntry id terms quantity b)
+newEntry-fits : (id : Id) (terms : StopTerms) (quantity : Quantity) (b : Book) → AdmissionFits id terms quantity
+    → Fits b → StopFits (newEntry id terms quantity b)
 unfolding newEntry
 newEntry-fits id terms quantity b h f = record {
   high = h .high;
@@ -101,14 +111,18 @@ newEntry-fits id terms quantity b h f = record {
   seq = f .next;
 }
 
-pub admit-stored : (kill : Bool) (trade : LastPrice) (id : Id) (terms : StopTerms) (quantity : Quantity) (w : List ℕ) (path : PrintPath)
+pub admit-stored : (kill : Bool) (trade : LastPrice) (id : Id) (terms : StopTerms) (quantity : Quantity) (w : List ℕ)
+    (path : PrintPath)
     → AdmissionFits id terms quantity → Accepted (admit kill trade id terms quantity w path .answer)
-    → Stored (getD w 0 0) (admitted (newEntry id terms quantity (bookOf w)) (bookOf w)) w (admit kill trade id terms quantity w path .words)
+    → Stored (getD w 0 0)
+    (admitted (newEntry id terms quantity (bookOf w)) (bookOf w)) w
+    (admit kill trade id terms quantity w path .words)
 unfolding admit
 admit-stored kill trade id terms quantity w path fits =
     let b = bookOf w in
     let t = newEntry id terms quantity b in
-    decide-accepted (λ (o : PathOutcome Seq). o .answer) (λ o v. Stored (getD w 0 0) (admitted t b) w (o .words)) _ _ _ (λ k. refl)
+    decide-accepted (λ (o : PathOutcome Seq). o .answer)
+    (λ o v. Stored (getD w 0 0) (admitted t b) w (o .words)) _ _ _ (λ k. refl)
     (λ e a.
     let q = admission-admissible kill trade id terms quantity w e in
     book-stored (admitted t b) w (q .0) (λ v. admitted-valid t b v (q .1))
@@ -126,10 +140,12 @@ vacated-stored : (id : Id) (w : List ℕ) (p : Pending) → wellFormed w ≡ tru
     → Stored (getD w 0 0) (vacated (p .index) (bookOf w)) w (storedBook (vacated (p .index) (bookOf w)) w)
 vacated-stored id w p formed e =
     let b = bookOf w in
-    book-stored (vacated (p .index) b) w formed (λ v. vacated-valid p b v (lookup-found id b p e .0)) (λ f. vacated-fits (p .index) b f)
+    book-stored (vacated (p .index) b) w formed (λ v. vacated-valid p b v (lookup-found id b p e .0))
+    (λ f. vacated-fits (p .index) b f)
     (vacated-length (p .index) b)
 
-cancelFound-stored : (id : Id) (w : List ℕ) (x : Option Pending) → wellFormed w ≡ true → lookup id (bookOf w) ≡ x → Accepted (cancelFound x w .answer)
+cancelFound-stored : (id : Id) (w : List ℕ) (x : Option Pending) → wellFormed w ≡ true → lookup id (bookOf w) ≡ x
+    → Accepted (cancelFound x w .answer)
     → FoundAnd id w (λ p. Stored (getD w 0 0) (vacated (p .index) (bookOf w)) w (cancelFound x w .words))
 unfolding cancelFound
 cancelFound-stored id w none formed e a = absurd (accepted-refused (a .0) (12, sym (a .1)))
@@ -147,7 +163,8 @@ cancel-stored id w =
 abbrev pub updated : OrderUpdate → Pending → Book → Book
 updated change p b = cond (cancels change) (vacated (p .index) b) (changed change p b)
 
-updateFound-stored : (change : OrderUpdate) (id : Id) (trade : LastPrice) (w : List ℕ) (x : Option Pending) → UpdateFits change → wellFormed w ≡ true
+updateFound-stored : (change : OrderUpdate) (id : Id) (trade : LastPrice) (w : List ℕ) (x : Option Pending)
+    → UpdateFits change → wellFormed w ≡ true
     → lookup id (bookOf w) ≡ x → Accepted (updateFound change trade x w .answer)
     → FoundAnd id w (λ p. Stored (getD w 0 0) (updated change p (bookOf w)) w (updateFound change trade x w .words))
 unfolding updateFound cancelFound changeFound
@@ -159,15 +176,18 @@ updateFound-stored change id trade w (some p) fits formed e a =
       e,
       cases (cancels change)
           (λ f. rw f (vacated-stored id w p formed e))
-          (λ f. rw f (decide-accepted (λ (o : StoreOutcome StopEntry). o .answer) (λ o v. Stored (getD w 0 0) (changed change p b) w (o .words)) _ _ _ (λ k. refl)
+          (λ f. rw f (decide-accepted (λ (o : StoreOutcome StopEntry). o .answer)
+          (λ o v. Stored (getD w 0 0) (changed change p b) w (o .words)) _ _ _ (λ k. refl)
           (λ g r.
           let c = change-changeable change trade (p .entry) b g in
-          book-stored (changed change p b) w formed (λ v. changed-valid change p b v found c) (λ h. changed-fits change p b h found c fits)
+          book-stored (changed change p b) w formed (λ v. changed-valid change p b v found c)
+          (λ h. changed-fits change p b h found c fits)
           (changed-length change p b))
           (rw f at a))),
     )
 
-pub update-stored : (change : OrderUpdate) (id : Id) (trade : LastPrice) (w : List ℕ) → UpdateFits change → Accepted (update change id trade w .answer)
+pub update-stored : (change : OrderUpdate) (id : Id) (trade : LastPrice) (w : List ℕ) → UpdateFits change
+    → Accepted (update change id trade w .answer)
     → FoundAnd id w (λ p. Stored (getD w 0 0) (updated change p (bookOf w)) w (update change id trade w .words))
 unfolding update
 update-stored change id trade w fits =

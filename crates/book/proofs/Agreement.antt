@@ -1,5 +1,5 @@
--- A run of prices that never falls, or never rises, is decided by its ends: a segment leaves the book that the walk over all its prices
--- leaves, and takes out the same stops in the same order. Only the prices that elect them differ.
+-- A run of prices that never falls, or never rises, is decided by its ends: a segment leaves the book that the walk
+-- over all its prices leaves, and takes out the same stops in the same order. Only the prices that elect them differ.
 use Prim.Native.Nat.{ℕ}
 use mathlib.Core.Path.{_≡_, refl, sym, ap, _∙_}
 use mathlib.Core.Bool.{Bool, true, false}
@@ -36,7 +36,8 @@ agree-sym h = record { books = sym (h .books); stops = sym (h .stops) }
 pub agree-trans : {a b c : Evaluated} → Agree a b → Agree b c → Agree a c
 agree-trans h k = record { books = h .books ∙ k .books; stops = h .stops ∙ k .stops }
 
-pub andThen-stops : (o r : Evaluated) → map (λ f. f .stop) (andThen o r .fills) ≡ map (λ f. f .stop) (o .fills) ++ map (λ f. f .stop) (r .fills)
+pub andThen-stops : (o r : Evaluated)
+    → map (λ f. f .stop) (andThen o r .fills) ≡ map (λ f. f .stop) (o .fills) ++ map (λ f. f .stop) (r .fills)
 unfolding andThen
 andThen-stops o r = map-append (λ f. f .stop) (o .fills) (r .fills)
 
@@ -47,7 +48,8 @@ agree-andThen o {r} {r′} h = record { books = h .books; stops = rw (andThen-st
 ------------------------------------------------------------------------
 -- Points
 
-point-stops : (kill first : Bool) (p : Price) (b : Book) → map (λ f. f .stop) (point kill first p b .fills) ≡ entries (electedBy kill first p b)
+point-stops : (kill first : Bool) (p : Price) (b : Book)
+    → map (λ f. f .stop) (point kill first p b .fills) ≡ entries (electedBy kill first p b)
 unfolding point fillAt entries
 point-stops kill first p b = map-map (λ f. f .stop) (fillAt p) (electedBy kill first p b)
 
@@ -61,8 +63,10 @@ point-again kill first o b w = record {
 }
 
 -- along a run, from a settled book, two points are one
-pub points-merged : (kill f g h : Bool) (o p q : Price) (d : Side) (b : Book) → behind d (p .0) (o .0) ≡ false → behind d (q .0) (p .0) ≡ false
-    → BookSettled kill o b → Agree (andThen (point kill f p b) (point kill g q (point kill f p b .book))) (point kill h q b)
+pub points-merged : (kill f g h : Bool) (o p q : Price) (d : Side) (b : Book) → behind d (p .0) (o .0) ≡ false
+    → behind d (q .0) (p .0) ≡ false
+    → BookSettled kill o b
+    → Agree (andThen (point kill f p b) (point kill g q (point kill f p b .book))) (point kill h q b)
 unfolding andThen entries
 points-merged kill f g h o p q d b op pq w =
     let after = point kill f p b .book in
@@ -70,7 +74,9 @@ points-merged kill f g h o p q d b op pq w =
       books = book-merged kill f g h o p q d b op pq w;
       stops =
           andThen-stops (point kill f p b) (point kill g q after)
-          ∙ rw (point-stops kill f p b, point-stops kill g q after, point-stops kill h q b) (sym (ap entries (electedBy-merged kill f g h o p q d b op pq w) ∙ map-append (λ x. x .entry) (electedBy kill f p b) (electedBy kill g q after)));
+          ∙ rw (point-stops kill f p b, point-stops kill g q after, point-stops kill h q b)
+          (sym (ap entries (electedBy-merged kill f g h o p q d b op pq w)
+          ∙ map-append (λ x. x .entry) (electedBy kill f p b) (electedBy kill g q after)));
     }
 
 ------------------------------------------------------------------------
@@ -89,7 +95,8 @@ goes-last Buy p [] h = omega arith
 goes-last Buy p (q ∷ qs) h = omega (arith, goes-last Buy q qs (h .1))
 
 -- from a book settled at o, the walk along a monotone run from o agrees with the one point at its last price
-pub stretch : (kill falls first : Bool) (from : LastPrice) (d : Side) (o : Price) (ps : List Price) (b : Book) → BookSettled kill o b
+pub stretch : (kill falls first : Bool) (from : LastPrice) (d : Side) (o : Price) (ps : List Price) (b : Book)
+    → BookSettled kill o b
     → Monotone d o ps → Agree (walkFrom kill falls from ps b) (point kill first (lastOf o ps) b)
 unfolding walkFrom lastOf
 stretch kill falls first from d o [] b w r = point-again kill first o b w
@@ -98,17 +105,26 @@ stretch kill falls first from d o (p ∷ ps) b w r =
     let v = point-settled kill f p b (settled-trails kill o b w) in
     agree-trans
     (agree-andThen (point kill f p b) (stretch kill falls first (last.At p) d p ps (point kill f p b .book) v (r .1)))
-    (points-merged kill f first first o p (lastOf p ps) d b (goes-past d (o .0) (p .0) (r .0)) (goes-past d _ _ (goes-last d p ps (r .1))) w)
+    (points-merged kill f first first o p (lastOf p ps) d b (goes-past d (o .0) (p .0) (r .0))
+    (goes-past d _ _ (goes-last d p ps (r .1))) w)
 
 -- so two such runs with the same last price agree
-pub stretches-agree : (kill falls : Bool) (from : LastPrice) (d : Side) (o : Price) (ps qs : List Price) (b : Book) → BookSettled kill o b
-    → Monotone d o ps → Monotone d o qs → lastOf o ps ≡ lastOf o qs → Agree (walkFrom kill falls from ps b) (walkFrom kill falls from qs b)
+pub stretches-agree : (kill falls : Bool) (from : LastPrice) (d : Side) (o : Price) (ps qs : List Price) (b : Book)
+    → BookSettled kill o b
+    → Monotone d o ps → Monotone d o qs → lastOf o ps ≡ lastOf o qs
+    → Agree (walkFrom kill falls from ps b) (walkFrom kill falls from qs b)
 stretches-agree kill falls from d o ps qs b w r s e =
-    agree-trans (rw (← e) (stretch kill falls true from d o ps b w r)) (agree-sym (stretch kill falls true from d o qs b w s))
+    agree-trans (rw (← e) (stretch kill falls true from d o ps b w r))
+    (agree-sym (stretch kill falls true from d o qs b w s))
 
-pub segment-walk : (kill : Bool) (prev : LastPrice) (d : Side) (first : Price) (rest : List Price) (b : Book) → All Trails (b .slots)
+pub segment-walk : (kill : Bool) (prev : LastPrice) (d : Side) (first : Price) (rest : List Price) (b : Book)
+    → All Trails (b .slots)
     → Monotone d first rest
-    → Agree (segment kill (record { prev = prev; first = first; last = lastOf first rest }) b) (walk kill prev (first ∷ rest) b)
+    → Agree (segment kill (record {
+      prev = prev;
+      first = first;
+      last = lastOf first rest;
+    }) b) (walk kill prev (first ∷ rest) b)
 unfolding segment walk walkFrom lastOf
 segment-walk kill prev d first rest b h r =
     let end = lastOf first rest in
@@ -116,5 +132,9 @@ segment-walk kill prev d first rest b h r =
     let o = point kill (sellsFirst falls prev first) first b in
     let w = point-settled kill (sellsFirst falls prev first) first b h in
     cases (eqb (first .0) (end .0))
-    (λ e. rw e (agree-andThen o (stretches-agree kill falls (last.At first) d first [] rest (o .book) w tt r (λ i. record { 0 = eqb-true (first .0) (end .0) e i }))))
-    (λ e. rw e (agree-andThen o (stretches-agree kill falls (last.At first) d first (end ∷ []) rest (o .book) w (goes-last d first rest r, tt) r refl)))
+    (λ e. rw e (agree-andThen o (stretches-agree kill falls (last.At first) d first [] rest (o .book) w tt r (λ i. record {
+      0 = eqb-true (first .0) (end .0) e i;
+    }))))
+    (λ e. rw e (agree-andThen o
+    (stretches-agree kill falls (last.At first) d first (end ∷ []) rest (o .book) w
+    (goes-last d first rest r, tt) r refl)))

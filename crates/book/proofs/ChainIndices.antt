@@ -29,4 +29,5 @@ module _ (P : ℕ → Type 0) where
 pub chainIndices-range : (c : Chain) (b : Book) → All (λ i. i ≤ length (b .slots)) (chainIndices c b)
 unfolding chainIndices indices
 chainIndices-range c b =
-    all-mapped (InBook (b .slots)) (λ i. i ≤ length (b .slots)) (λ p. p .index) (λ p h. h .to) (chain c (b .slots)) (chain-in-book c (b .slots))
+    all-mapped (InBook (b .slots)) (λ i. i ≤ length (b .slots)) (λ p. p .index) (λ p h. h .to) (chain c (b .slots))
+    (chain-in-book c (b .slots))

@@ -24,7 +24,8 @@ module _ (b : Book) where
   header-head (Ordered (ByWatermark Buy)) = refl
   header-head Free = refl
 
-  held-next : (c : Chain) (i : ℕ) (t : StopEntry) → chainSide c ≡ sideOf t → getD (recordWords b i (held t)) (linkOf c) 0 ≡ nextIn (chainIndices c b) i
+  held-next : (c : Chain) (i : ℕ) (t : StopEntry) → chainSide c ≡ sideOf t
+      → getD (recordWords b i (held t)) (linkOf c) 0 ≡ nextIn (chainIndices c b) i
   unfolding recordWords dataWords afterByStop afterByWatermark withLinks
   held-next (ByStop side) i t e = rw (← e)
   held-next (ByWatermark side) i t e = rw (← e)
@@ -55,7 +56,8 @@ module _ (b : Book) where
     pub layout-head : (a : StoreChain) → getD (layout b ++ r) (startOf a) 0 ≡ headOr0 (chainsOf b a)
     layout-head a = layout-header b r (startOf a) (startOf-inside a) ∙ header-head a
 
-    pub layout-next : (a : StoreChain) (i : ℕ) → Belongs a (b .slots) i → recordWord (layout b ++ r) i (nextOf a) ≡ nextIn (chainsOf b a) i
+    pub layout-next : (a : StoreChain) (i : ℕ) → Belongs a (b .slots) i
+        → recordWord (layout b ++ r) i (nextOf a) ≡ nextIn (chainsOf b a) i
     layout-next a i h =
         let q = belongs-range a (b .slots) i h in
         layout-record b r i (nextOf a) (q .0) (q .1) (nextOf-inside a) ∙ recordWords-next a i h

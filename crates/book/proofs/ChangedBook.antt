@@ -77,12 +77,14 @@ module _ (update : OrderUpdate) (p : Pending) (b : Book) where
   changedEntry-sound s c = record {
     sequence = cases (takesSequence update) (λ e. rw e (omega arith)) (λ e. rw e (s .sequence));
     quantity = c .some-quantity;
-    terms = consistent-of (changedTerms update (p .entry)) (rw (changedTerms-keeps update (p .entry) .1) (consistent-parts (p .entry .terms) (s .terms) .0)) (c .within);
+    terms = consistent-of (changedTerms update (p .entry))
+        (rw (changedTerms-keeps update (p .entry) .1) (consistent-parts (p .entry .terms) (s .terms) .0)) (c .within);
     on-tick = rw (changedTerms-keeps update (p .entry) .1) (s .on-tick);
   }
 
   -- the identity stays, and the sequence stays or is new
-  changedEntry-differs : (s : Slot) → SlotsDiffer (held (p .entry)) s → soundStop (b .next) (b .tick) s ≡ true → SlotsDiffer (held (changedEntry update (p .entry) b)) s
+  changedEntry-differs : (s : Slot) → SlotsDiffer (held (p .entry)) s → soundStop (b .next) (b .tick) s ≡ true
+      → SlotsDiffer (held (changedEntry update (p .entry) b)) s
   unfolding changedEntry
   changedEntry-differs vacant h e = slotsDiffer-vacant (held (changedEntry update (p .entry) b))
   changedEntry-differs (held u) h e =
@@ -98,16 +100,21 @@ module _ (update : OrderUpdate) (p : Pending) (b : Book) where
       let t = changedEntry update (p .entry) b in
       let Kept : Slot → Type 0 = λ s. soundStop (b .next) (b .tick) s ≡ true in
       let s : Kept (held (p .entry)) = rw (h .there) at (all-getD Kept (b .slots) k vacant refl (v .sound)) in
-      let others : All (SlotsDiffer (held (p .entry))) (set (b .slots) k vacant) = rw (h .there) at (allDiffer-others (b .slots) k (v .differ)) in
+      let others : All (SlotsDiffer (held (p .entry))) (set (b .slots) k vacant) =
+      rw (h .there) at (allDiffer-others (b .slots) k (v .differ)) in
       withSlot-valid b (changed update p b .next) k (held t) (b .free) v changed-later
-      (sound-of (changed update p b .next) (b .tick) t (changedEntry-sound (sound-parts (b .next) (b .tick) (p .entry) s) c))
-      (all-map-both changedEntry-differs (set (b .slots) k vacant) others (all-set Kept (b .slots) k vacant refl (v .sound)))
+      (sound-of (changed update p b .next)
+      (b .tick) t (changedEntry-sound (sound-parts (b .next) (b .tick) (p .entry) s) c))
+      (all-map-both changedEntry-differs (set (b .slots) k vacant) others
+      (all-set Kept (b .slots) k vacant refl (v .sound)))
       (v .free-vacant ∙ sym (vacantIndices-kept 1 (b .slots) k (p .entry) t (h .there)))
 
-  pub changed-fits : Fits b → InBook (b .slots) p → Changeable update (p .entry) b → UpdateFits update → Fits (changed update p b)
+  pub changed-fits : Fits b → InBook (b .slots) p → Changeable update (p .entry) b → UpdateFits update
+      → Fits (changed update p b)
   unfolding changed changedEntry
   changed-fits f h c words =
-      let t : StopFits (p .entry) = rw (h .there) at (all-getD SlotFits (b .slots) (p .index - 1) vacant tt (f .slots)) in
+      let t : StopFits (p .entry) =
+      rw (h .there) at (all-getD SlotFits (b .slots) (p .index - 1) vacant tt (f .slots)) in
       let n = changed-numbers update (p .entry) t words in
       withSlot-fits b (changed update p b .next) (p .index - 1) (held (changedEntry update (p .entry) b)) (b .free) f
       (cases (takesSequence update) (λ e. rw e (c .next-fits e)) (λ e. rw e (f .next)))
@@ -128,4 +135,9 @@ module _ (update : OrderUpdate) (p : Pending) (b : Book) where
   pub changed-count : InBook (b .slots) p → pendingCount (changed update p b .slots) ≡ pendingCount (b .slots)
   unfolding changed pendingCount
   changed-count h =
-      omega (arith, rw (h .there) at (pendingCount-set (b .slots) (p .index - 1) (held (changedEntry update (p .entry) b)) (omega (arith, h .from, h .to))))
+      omega (
+        arith,
+        rw (h .there) at
+            (pendingCount-set (b .slots) (p .index - 1) (held (changedEntry update (p .entry) b))
+            (omega (arith, h .from, h .to))),
+      )

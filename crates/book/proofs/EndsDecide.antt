@@ -33,14 +33,16 @@ use Rattle.book.specs.declared.StopEntry.{StopEntry}
 likenessOf : Settings → Book → StopEntry → Likeness
 likenessOf s b t = likeness (electedEntry s b (record { stop = t; trigger = t .terms .stop }))
 
-likeness-entries : (s : Settings) (b : Book) (l : List Fill) → map likeness (map (electedEntry s b) l) ≡ map (likenessOf s b) (map (λ f. f .stop) l)
+likeness-entries : (s : Settings) (b : Book) (l : List Fill)
+    → map likeness (map (electedEntry s b) l) ≡ map (likenessOf s b) (map (λ f. f .stop) l)
 unfolding likeness electedEntry likenessOf fillAt
 likeness-entries s b [] = refl
 likeness-entries s b (f ∷ l) = ap (λ (r : List Likeness). likenessOf s b (f .stop) ∷ r) (likeness-entries s b l)
 
 module _ (s : Settings) (o r : Evaluated) (a : Agree o r) where
   agree-length : length (o .fills) ≡ length (r .fills)
-  agree-length = sym (length-map (o .fills) (λ f. f .stop)) ∙ ap length (a .stops) ∙ length-map (r .fills) (λ f. f .stop)
+  agree-length = sym (length-map (o .fills) (λ f. f .stop)) ∙ ap length (a .stops)
+      ∙ length-map (r .fills) (λ f. f .stop)
 
   agree-entries : map likeness (electedEntries s o) ≡ map likeness (electedEntries s r)
   unfolding electedEntries
@@ -56,35 +58,52 @@ module _ (w : List ℕ) (formed : wellFormed w ≡ true) (elected : ℕ) (room :
   segment-accepted : (moved : ℕ) → 2 * pendingIn w ≤ moved → firstNo (segmentQuestions w elected moved) ≡ none
   unfolding segmentQuestions
   segment-accepted moved k =
-      firstNo-of (segmentQuestions w elected moved) (formed, (rw (le-leb (pendingIn w) elected room, le-leb (2 * pendingIn w) moved k), tt))
+      firstNo-of (segmentQuestions w elected moved)
+      (formed, (rw (le-leb (pendingIn w) elected room, le-leb (2 * pendingIn w) moved k), tt))
 
-  walk-accepted : (prices : List Price) → 1 ≤ length prices → length prices ≤ mostPrices → firstNo (walkQuestions prices w elected) ≡ none
+  walk-accepted : (prices : List Price) → 1 ≤ length prices → length prices ≤ mostPrices
+      → firstNo (walkQuestions prices w elected) ≡ none
   unfolding walkQuestions
   walk-accepted prices k l =
-      firstNo-of (walkQuestions prices w elected)
-      (formed, (le-leb (pendingIn w) elected room, (rw (le-leb 1 (length prices) k, le-leb (length prices) mostPrices l), tt)))
+      firstNo-of (walkQuestions prices w elected) (
+        formed,
+        (
+          le-leb (pendingIn w) elected room,
+          (rw (le-leb 1 (length prices) k, le-leb (length prices) mostPrices l), tt),
+        ),
+      )
 
--- Demand 3. For every well-formed store, every run of 1 to 4,096 prices that never falls or never rises, prev or none, collar or none, any
--- namespace, kill switch on or off, and any lent lists as long as the calls demand: neither call is refused; both answer the same number
--- elected; the elected entries are alike, entry by entry, in identity, side, stop, quantity, sequence, limit, child identity and whether
--- that child is pending; and the two stores are equal in every word.
-pub ends-decide : (s : Settings) (prev : LastPrice) (d : Side) (first : Price) (rest : List Price) (w : List ℕ) (ends moved run : ℕ)
+-- Demand 3. For every well-formed store, every run of 1 to 4,096 prices that never falls or never rises, prev or none,
+-- collar or none, any namespace, kill switch on or off, and any lent lists as long as the calls demand: neither call is
+-- refused; both answer the same number elected; the elected entries are alike, entry by entry, in identity, side, stop,
+-- quantity, sequence, limit, child identity and whether that child is pending; and the two stores are equal in every
+-- word.
+pub ends-decide : (s : Settings) (prev : LastPrice) (d : Side) (first : Price) (rest : List Price) (w : List ℕ)
+    (ends moved run : ℕ)
     → wellFormed w ≡ true → Monotone d first rest → length (first ∷ rest) ≤ mostPrices
     → pendingIn w ≤ ends → 2 * pendingIn w ≤ moved → pendingIn w ≤ run
-    → DecidedByEnds (segmentCall s (record { prev = prev; first = first; last = lastOf first rest }) w ends moved) (walkCall s prev (first ∷ rest) w run)
+    → DecidedByEnds (segmentCall s (record {
+      prev = prev;
+      first = first;
+      last = lastOf first rest;
+    }) w ends moved) (walkCall s prev (first ∷ rest) w run)
 unfolding segmentCall walkCall decide countsOf electedEntries
 ends-decide s prev d first rest w ends moved run formed goes few h k l =
     let prints : PrintSegment = record { prev = prev; first = first; last = lastOf first rest } in
     let o : Evaluated = segment (s .kill) prints (bookOf w) in
     let r : Evaluated = walk (s .kill) prev (first ∷ rest) (bookOf w) in
-    let a : Agree o r = segment-walk (s .kill) prev d first rest (bookOf w) (trails-of-sound (bookOf w .next) (bookOf w .tick) (bookOf w .slots) (wellFormed-valid w formed .sound)) goes in
+    let a : Agree o r = segment-walk (s .kill) prev d first rest (bookOf w)
+    (trails-of-sound (bookOf w .next) (bookOf w .tick) (bookOf w .slots) (wellFormed-valid w formed .sound)) goes in
     rw (segment-accepted w formed ends h moved k, walk-accepted w formed run l (first ∷ rest) (omega arith) few)
     (record {
       elected = length (o .fills);
       moves = countsOf o .moves;
       steps = countsOf r .moves;
       ends-answer = refl;
-      run-answer = ap (λ (k : ℕ). accepted (record { moves = countsOf r .moves; elected = k })) (sym (agree-length s o r a));
+      run-answer = ap (λ (k : ℕ). accepted (record {
+        moves = countsOf r .moves;
+        elected = k;
+      })) (sym (agree-length s o r a));
       listed = length-map (o .fills) (electedEntry s (o .book));
       alike = agree-entries s o r a;
       stores = ap (λ (b : Book). storedBook b w) (a .books);

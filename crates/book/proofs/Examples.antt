@@ -73,7 +73,8 @@ toldCounts (accepted c) = 1 ∷ c .moves ∷ c .elected ∷ []
 -- kind, high, low, side, stop, quantity, sequence, trigger, as the program forecast prints an elected entry
 line : Elected → List ℕ
 line e =
-    kindNumber (e .id .kind) ∷ e .id .high ∷ e .id .low ∷ sideNumber (e .side) ∷ e .stop .0 ∷ e .quantity .0 ∷ e .seq .0 ∷ e .trigger .0 ∷ []
+    kindNumber (e .id .kind) ∷ e .id .high ∷ e .id .low ∷ sideNumber (e .side) ∷ e .stop .0 ∷ e .quantity .0
+    ∷ e .seq .0 ∷ e .trigger .0 ∷ []
 
 movedLine : Moved → List ℕ
 movedLine m = m .id .low ∷ m .stop .0 ∷ []
@@ -146,20 +147,27 @@ example found expected = record { found = found; expected = expected }
 
 table : List Example
 table =
-    example (laidOut ∷ []) ((2 ∷ 0 ∷ 0 ∷ 0 ∷ 0 ∷ 0 ∷ 0 ∷ 0 ∷ 1 ∷ (replicate 9 0 ++ (2 ∷ 0 ∷ replicate 9 0 ++ (0 ∷ 0 ∷ 5 ∷ [])))) ∷ [])
+    example (laidOut ∷ [])
+    ((2 ∷ 0 ∷ 0 ∷ 0 ∷ 0 ∷ 0 ∷ 0 ∷ 0 ∷ 1 ∷ (replicate 9 0 ++ (2 ∷ 0 ∷ replicate 9 0 ++ (0 ∷ 0 ∷ 5 ∷ [])))) ∷ [])
     ∷ example
-    (admissionLines (admitInto (admitInto laidOut last.None 7 (terms Sell 98 100 10) .words) last.None 9 (terms Sell 95 100 10)))
+    (admissionLines (admitInto (admitInto laidOut last.None 7 (terms Sell 98 100 10) .words) last.None 9
+    (terms Sell 95 100 10)))
     ((1 ∷ 1 ∷ []) ∷ (forecastStore ++ (5 ∷ [])) ∷ [])
-    ∷ example (admissionLines (admitInto forecastStore last.None 11 (terms Sell 90 100 10))) ((0 ∷ 10 ∷ []) ∷ forecastStore ∷ [])
-    ∷ example (admissionLines (admitInto forecastStore (last.At (price 90)) 9 (terms Sell 90 100 10))) ((0 ∷ 7 ∷ []) ∷ forecastStore ∷ [])
-    ∷ example (admissionLines (admitInto forecastStore last.None 9 (terms Sell 90 100 10))) ((0 ∷ 8 ∷ []) ∷ forecastStore ∷ [])
+    ∷ example (admissionLines (admitInto forecastStore last.None 11 (terms Sell 90 100 10)))
+    ((0 ∷ 10 ∷ []) ∷ forecastStore ∷ [])
+    ∷ example (admissionLines (admitInto forecastStore (last.At (price 90)) 9 (terms Sell 90 100 10)))
+    ((0 ∷ 7 ∷ []) ∷ forecastStore ∷ [])
+    ∷ example (admissionLines (admitInto forecastStore last.None 9 (terms Sell 90 100 10)))
+    ((0 ∷ 8 ∷ []) ∷ forecastStore ∷ [])
     ∷ example (walkLines (walkOver forecastStore (100 ∷ 97 ∷ 94 ∷ [])))
-    ((1 ∷ 0 ∷ 2 ∷ []) ∷ forecastLeft ∷ (2 ∷ 0 ∷ 7 ∷ 1 ∷ 98 ∷ 1 ∷ 0 ∷ 97 ∷ []) ∷ (2 ∷ 0 ∷ 9 ∷ 1 ∷ 95 ∷ 1 ∷ 1 ∷ 94 ∷ []) ∷ [])
+    ((1 ∷ 0 ∷ 2 ∷ []) ∷ forecastLeft ∷ (2 ∷ 0 ∷ 7 ∷ 1 ∷ 98 ∷ 1 ∷ 0 ∷ 97 ∷ []) ∷ (2 ∷ 0 ∷ 9 ∷ 1 ∷ 95 ∷ 1 ∷ 1 ∷ 94 ∷ [])
+    ∷ [])
     ∷ example (segmentLines (segmentOver forecastStore last.None 100 94))
     ((1 ∷ 0 ∷ 2 ∷ []) ∷ forecastLeft
     ∷ (2 ∷ 0 ∷ 7 ∷ 1 ∷ 98 ∷ 1 ∷ 0 ∷ 94 ∷ []) ∷ (2 ∷ 0 ∷ 9 ∷ 1 ∷ 95 ∷ 1 ∷ 1 ∷ 94 ∷ []) ∷ [])
     ∷ example (walkLines (walkOver turningStore (100 ∷ 110 ∷ 100 ∷ [])))
-    ((1 ∷ 1 ∷ 1 ∷ []) ∷ (1 ∷ 0 ∷ 1 ∷ 0 ∷ 0 ∷ 0 ∷ 0 ∷ 0 ∷ 1 ∷ replicate 11 0) ∷ (2 ∷ 0 ∷ 7 ∷ 1 ∷ 105 ∷ 1 ∷ 0 ∷ 100 ∷ []) ∷ [])
+    ((1 ∷ 1 ∷ 1 ∷ []) ∷ (1 ∷ 0 ∷ 1 ∷ 0 ∷ 0 ∷ 0 ∷ 0 ∷ 0 ∷ 1 ∷ replicate 11 0) ∷ (2 ∷ 0 ∷ 7 ∷ 1 ∷ 105 ∷ 1 ∷ 0 ∷ 100 ∷ [])
+    ∷ [])
     ∷ example (segmentLines (segmentOver turningStore last.None 100 100))
     ((1 ∷ 0 ∷ 0 ∷ []) ∷ turningStore ∷ [])
     ∷ example (map line (segmentOver bothStore last.None 100 101 .elected)) (buyLine ∷ sellLine ∷ [])

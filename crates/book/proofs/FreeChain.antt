@@ -33,16 +33,19 @@ vacantIndices-vacant i [] = tt
 vacantIndices-vacant i (vacant ∷ ss) =
     let z : i - i ≡ 0 = omega arith in (
       record { low = omega arith; high = omega arith; is-vacant = rw z refl },
-      all-map {Q = VacantFrom i (vacant ∷ ss)} (vacantFrom-next i vacant ss) (vacantIndices (suc i) ss) (vacantIndices-vacant (suc i) ss),
+      all-map {Q = VacantFrom i (vacant ∷ ss)} (vacantFrom-next i vacant ss) (vacantIndices (suc i) ss)
+          (vacantIndices-vacant (suc i) ss),
     )
 vacantIndices-vacant i (held t ∷ ss) =
-    all-map {Q = VacantFrom i (held t ∷ ss)} (vacantFrom-next i (held t) ss) (vacantIndices (suc i) ss) (vacantIndices-vacant (suc i) ss)
+    all-map {Q = VacantFrom i (held t ∷ ss)} (vacantFrom-next i (held t) ss) (vacantIndices (suc i) ss)
+    (vacantIndices-vacant (suc i) ss)
 
 pub vacantIndices-distinct : (i : ℕ) (ss : List Slot) → Distinct (vacantIndices i ss)
 unfolding vacantIndices
 vacantIndices-distinct i [] = tt
 vacantIndices-distinct i (vacant ∷ ss) = (
-  all-map {P = VacantFrom (suc i) ss} {Q = λ j. i ≢ j} (λ j h. omega arith) (vacantIndices (suc i) ss) (vacantIndices-vacant (suc i) ss),
+  all-map {P = VacantFrom (suc i) ss} {Q = λ j. i ≢ j} (λ j h. omega arith) (vacantIndices (suc i) ss)
+      (vacantIndices-vacant (suc i) ss),
   vacantIndices-distinct (suc i) ss,
 )
 vacantIndices-distinct i (held t ∷ ss) = vacantIndices-distinct (suc i) ss
@@ -59,10 +62,12 @@ pendingCount-vacant i (held t ∷ ss) = omega (arith, pendingCount-vacant (suc i
 
 module _ (b : Book) (v : Valid b) where
   pub free-all-vacant : All (VacantFrom 1 (b .slots)) (b .free)
-  free-all-vacant = sortBy-parts ltb (VacantFrom 1 (b .slots)) (b .free) (rw (v .free-vacant) (vacantIndices-vacant 1 (b .slots)))
+  free-all-vacant = sortBy-parts ltb (VacantFrom 1 (b .slots)) (b .free)
+      (rw (v .free-vacant) (vacantIndices-vacant 1 (b .slots)))
 
   pub free-distinct : Distinct (b .free)
-  free-distinct = sortBy-pairwise-parts ltb (λ i j. i ≢ j) (λ i j h e. h (sym e)) (b .free) (rw (v .free-vacant) (vacantIndices-distinct 1 (b .slots)))
+  free-distinct = sortBy-pairwise-parts ltb (λ i j. i ≢ j) (λ i j h e. h (sym e)) (b .free)
+      (rw (v .free-vacant) (vacantIndices-distinct 1 (b .slots)))
 
   pub free-count : pendingCount (b .slots) + length (b .free) ≡ length (b .slots)
   free-count = omega (arith, pendingCount-vacant 1 (b .slots), sortBy-length ltb (b .free), ap length (v .free-vacant))

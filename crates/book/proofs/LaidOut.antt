@@ -16,8 +16,10 @@ use Rattle.book.specs.Sizes.{headerLength, recordLength, storeLength}
 
 module _ (w : List ℕ) (b : Book)
     (headers : (k : ℕ) → k < headerLength → getD w k 0 ≡ getD (header b) k 0)
-    (records : (i k : ℕ) → 1 ≤ i → i ≤ length (b .slots) → k < recordLength → recordWord w i k ≡ getD (recordWords b i (getD (b .slots) (i - 1) vacant)) k 0) where
-  record-word : (i k : ℕ) → 1 ≤ i → i ≤ length (b .slots) → k < recordLength → recordWord w i k ≡ recordWord (layout b) i k
+    (records : (i k : ℕ) → 1 ≤ i → i ≤ length (b .slots) → k < recordLength
+    → recordWord w i k ≡ getD (recordWords b i (getD (b .slots) (i - 1) vacant)) k 0) where
+  record-word : (i k : ℕ) → 1 ≤ i → i ≤ length (b .slots) → k < recordLength
+      → recordWord w i k ≡ recordWord (layout b) i k
   record-word i k low high h = records i k low high h ∙ sym (rw append-nil at (layout-record b [] i k low high h))
 
   each-word : (p : ℕ) → p < storeLength (length (b .slots)) → getD w p 0 ≡ getD (layout b) p 0
@@ -37,5 +39,7 @@ module _ (w : List ℕ) (b : Book)
 
   pub layout-taken : storeLength (length (b .slots)) ≤ length w → take (storeLength (length (b .slots))) w ≡ layout b
   layout-taken room =
-      let size : length (take (storeLength (length (b .slots))) w) ≡ storeLength (length (b .slots)) = rw length-take (omega arith) in
-      ext-getD 0 (take (storeLength (length (b .slots))) w) (layout b) (size ∙ sym (layout-length b)) (λ p h. let l : p < storeLength (length (b .slots)) = rw size at h in rw getD-take (each-word p l))
+      let size : length (take (storeLength (length (b .slots))) w) ≡ storeLength (length (b .slots)) =
+      rw length-take (omega arith) in
+      ext-getD 0 (take (storeLength (length (b .slots))) w) (layout b) (size ∙ sym (layout-length b))
+      (λ p h. let l : p < storeLength (length (b .slots)) = rw size at h in rw getD-take (each-word p l))

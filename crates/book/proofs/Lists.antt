@@ -43,7 +43,8 @@ sameList-refl (x ∷ l) = rw (eq-eqb x x refl, sameList-refl l)
 ------------------------------------------------------------------------
 -- What holds of every element
 
-pub all-map-both : {A : Type 0} {P Q R : A → Type 0} (f : (x : A) → P x → Q x → R x) (l : List A) → All P l → All Q l → All R l
+pub all-map-both : {A : Type 0} {P Q R : A → Type 0} (f : (x : A) → P x → Q x → R x) (l : List A) → All P l → All Q l
+    → All R l
 all-map-both f [] p q = tt
 all-map-both f (x ∷ l) p q = (f x (p .0) (q .0), all-map-both f l (p .1) (q .1))
 
@@ -82,7 +83,8 @@ all-drop P zero l h = h
 all-drop P (suc n) [] h = h
 all-drop P (suc n) (x ∷ l) h = all-drop P n l (h .1)
 
-pub all-mapped : {A B : Type 0} (P : A → Type 0) (Q : B → Type 0) (f : A → B) → ((x : A) → P x → Q (f x)) → (l : List A) → All P l → All Q (map f l)
+pub all-mapped : {A B : Type 0} (P : A → Type 0) (Q : B → Type 0) (f : A → B) → ((x : A) → P x → Q (f x))
+    → (l : List A) → All P l → All Q (map f l)
 all-mapped P Q f g [] h = tt
 all-mapped P Q f g (x ∷ l) h = (g x (h .0), all-mapped P Q f g l (h .1))
 

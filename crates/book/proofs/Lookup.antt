@@ -29,7 +29,8 @@ pub record Gathered (choice : Slot → Option StopEntry) (i : ℕ) (ss : List Sl
   pub chosen : choice (getD ss (p .index - i) vacant) ≡ some (p .entry)
 
 module _ (choice : Slot → Option StopEntry) where
-  gathered-later : (i : ℕ) (s : Slot) (ss : List Slot) (p : Pending) → Gathered choice (suc i) ss p → Gathered choice i (s ∷ ss) p
+  gathered-later : (i : ℕ) (s : Slot) (ss : List Slot) (p : Pending) → Gathered choice (suc i) ss p
+      → Gathered choice i (s ∷ ss) p
   gathered-later i s ss p g =
       let e : p .index - i ≡ suc (p .index - suc i) = omega (arith, g .from) in
       record { from = omega (arith, g .from); to = omega (arith, g .to); chosen = rw e (g .chosen) }
@@ -47,15 +48,22 @@ module _ (choice : Slot → Option StopEntry) where
 
   -- and all that the choice takes is gathered
   pub gather-all : (P : Pending → Type 0) (i : ℕ) (ss : List Slot) → All P (gather choice i ss)
-      → (k : ℕ) (t : StopEntry) → k < length ss → choice (getD ss k vacant) ≡ some t → P (record { index = i + k; entry = t })
+      → (k : ℕ) (t : StopEntry) → k < length ss → choice (getD ss k vacant) ≡ some t → P (record {
+        index = i + k;
+        entry = t;
+      })
   unfolding gather withIndex
   gather-all P i [] h k t l e = absurd (omega arith)
   gather-all P i (s ∷ ss) h zero t l e = rw add-zero (go (choice s) e h)
     where
-      go : (o : Option StopEntry) → o ≡ some t → All P (withIndex i o (gather choice (suc i) ss)) → P (record { index = i; entry = t })
+      go : (o : Option StopEntry) → o ≡ some t → All P (withIndex i o (gather choice (suc i) ss)) → P (record {
+        index = i;
+        entry = t;
+      })
       go none e h = let z : _≡_ {A = ℕ} 0 1 = cc in absurd (omega arith)
       go (some u) e h = let q : u ≡ t = cc in rw q at (h .0)
-  gather-all P i (s ∷ ss) h (suc k) t l e = rw (add-suc i k, ← suc-add i k) (gather-all P (suc i) ss (go (choice s) h) k t (omega arith) e)
+  gather-all P i (s ∷ ss) h (suc k) t l e =
+      rw (add-suc i k, ← suc-add i k) (gather-all P (suc i) ss (go (choice s) h) k t (omega arith) e)
     where
       go : (o : Option StopEntry) → All P (withIndex i o (gather choice (suc i) ss)) → All P (gather choice (suc i) ss)
       go none h = h
@@ -100,10 +108,15 @@ chain-in-book c ss =
     }
 
 pub chain-all : (P : Pending → Type 0) (c : Chain) (ss : List Slot) → All P (chain c ss)
-    → (k : ℕ) (t : StopEntry) → k < length ss → getD ss k vacant ≡ held t → chainSide c ≡ sideOf t → P (record { index = 1 + k; entry = t })
+    → (k : ℕ) (t : StopEntry) → k < length ss → getD ss k vacant ≡ held t → chainSide c ≡ sideOf t → P (record {
+      index = 1 + k;
+      entry = t;
+    })
 unfolding chain
 chain-all P c ss h k t l e q =
-    gather-all (pendingOn (chainSide c)) P 1 ss (sortBy-parts (earlierIn c) P (gather (pendingOn (chainSide c)) 1 ss) h) k t l (rw e (held-pendingOn (chainSide c) t q))
+    gather-all (pendingOn (chainSide c)) P 1 ss
+    (sortBy-parts (earlierIn c) P (gather (pendingOn (chainSide c)) 1 ss) h) k t l
+    (rw e (held-pendingOn (chainSide c) t q))
 
 ------------------------------------------------------------------------
 -- The search
@@ -123,11 +136,13 @@ named-none id (q ∷ l) e = cases (sameId id (q .entry .id))
     (λ f. let g : some q ≡ none = rw f at e in let z : _≡_ {A = ℕ} 0 1 = cc in absurd (omega arith))
     (λ f. (f, named-none id l (rw f at e)))
 
-pub lookup-found : (id : Id) (b : Book) (p : Pending) → lookup id b ≡ some p → InBook (b .slots) p × (sameId id (p .entry .id) ≡ true)
+pub lookup-found : (id : Id) (b : Book) (p : Pending) → lookup id b ≡ some p
+    → InBook (b .slots) p × (sameId id (p .entry .id) ≡ true)
 unfolding lookup
 lookup-found id b p e =
     named-found (InBook (b .slots)) id (chain (ByStop Sell) (b .slots) ++ chain (ByStop Buy) (b .slots)) p
-    (all-append (InBook (b .slots)) (chain (ByStop Sell) (b .slots)) (chain (ByStop Buy) (b .slots)) (chain-in-book (ByStop Sell) (b .slots)) (chain-in-book (ByStop Buy) (b .slots))) e
+    (all-append (InBook (b .slots)) (chain (ByStop Sell) (b .slots)) (chain (ByStop Buy) (b .slots))
+    (chain-in-book (ByStop Sell) (b .slots)) (chain-in-book (ByStop Buy) (b .slots))) e
 
 -- a record that does not hold a stop of this identity
 abbrev pub Unnamed : Id → Slot → Type 0

@@ -1,4 +1,5 @@
--- The records that a chain is to hold, and that the chains of a book hold them: those of its side, or the vacant ones, each once.
+-- The records that a chain is to hold, and that the chains of a book hold them: those of its side, or the vacant ones,
+-- each once.
 use Prim.Native.Nat.{ℕ, suc, _+_, _-_, _≤_}
 use native.Mathlib.Omega.{arith}
 use mathlib.Core.Path.{_≡_, refl, sym}
@@ -41,7 +42,8 @@ pub gathered-held : (side : Side) (ss : List Slot) (p : Pending) → Gathered (p
     → getD ss (p .index - 1) vacant ≡ held (p .entry)
 gathered-held side ss p g = pendingOn-held side (getD ss (p .index - 1) vacant) (p .entry) (g .chosen)
 
-gathered-member : (side : Side) (ss : List Slot) (p : Pending) → Gathered (pendingOn side) 1 ss p → Member side ss (p .index)
+gathered-member : (side : Side) (ss : List Slot) (p : Pending) → Gathered (pendingOn side) 1 ss p
+    → Member side ss (p .index)
 gathered-member side ss p g =
     let there = gathered-held side ss p g in
     record {
@@ -56,7 +58,8 @@ abbrev IndexOf : (ℕ → Type 0) → Pending → Type 0
 IndexOf P p = P (p .index)
 
 gather-members : (side : Side) (ss : List Slot) → All (IndexOf (Member side ss)) (gather (pendingOn side) 1 ss)
-gather-members side ss = all-map (gathered-member side ss) (gather (pendingOn side) 1 ss) (gather-gathered (pendingOn side) 1 ss)
+gather-members side ss =
+    all-map (gathered-member side ss) (gather (pendingOn side) 1 ss) (gather-gathered (pendingOn side) 1 ss)
 
 -- their indices, from i on
 unfoldable pub members : Side → ℕ → List Slot → List ℕ
@@ -76,7 +79,8 @@ unfolding members
 members-held side ss = all-indices (Member side ss) (gather (pendingOn side) 1 ss) (gather-members side ss)
 
 -- what holds of every member holds of a record that holds a stop of the side
-pub held-member : (P : ℕ → Type 0) (side : Side) (ss : List Slot) → All P (members side 1 ss) → (i : ℕ) → Member side ss i → P i
+pub held-member : (P : ℕ → Type 0) (side : Side) (ss : List Slot) → All P (members side 1 ss) → (i : ℕ)
+    → Member side ss i → P i
 unfolding members
 held-member P side ss h i m =
     let e : 1 + (i - 1) ≡ i = omega (arith, m .from) in
@@ -95,10 +99,12 @@ unfolding gather withIndex
 gather-other choice i [] = tt
 gather-other choice i (s ∷ ss) =
     go (choice s)
-    (all-map {P = Gathered choice (suc i) ss} {Q = λ q. i ≢ q .index} (λ q h. omega (arith, h .from)) (gather choice (suc i) ss) (gather-gathered choice (suc i) ss))
+    (all-map {P = Gathered choice (suc i) ss} {Q = λ q. i ≢ q .index} (λ q h. omega (arith, h .from))
+    (gather choice (suc i) ss) (gather-gathered choice (suc i) ss))
     (gather-other choice (suc i) ss)
   where
-    go : (o : Option StopEntry) → All (λ q. i ≢ q .index) (gather choice (suc i) ss) → Pairwise Other (gather choice (suc i) ss)
+    go : (o : Option StopEntry) → All (λ q. i ≢ q .index) (gather choice (suc i) ss)
+        → Pairwise Other (gather choice (suc i) ss)
         → Pairwise Other (withIndex i o (gather choice (suc i) ss))
     go none a rest = rest
     go (some t) a rest = (a, rest)
@@ -119,7 +125,8 @@ pub chainIndices-members : (c : Chain) (b : Book) → All (Member (chainSide c) 
 unfolding chainIndices chain
 chainIndices-members c b =
     all-indices (Member (chainSide c) (b .slots)) (chain c (b .slots))
-    (sortBy-all (earlierIn c) (IndexOf (Member (chainSide c) (b .slots))) (gather (pendingOn (chainSide c)) 1 (b .slots))
+    (sortBy-all (earlierIn c) (IndexOf (Member (chainSide c) (b .slots)))
+    (gather (pendingOn (chainSide c)) 1 (b .slots))
     (gather-members (chainSide c) (b .slots)))
 
 pub chainIndices-distinct : (c : Chain) (b : Book) → Distinct (chainIndices c b)

@@ -34,8 +34,10 @@ use Rattle.book.specs.declared.StopEntry.{StopEntry}
 abbrev pub withSlot : Book → ℕ → ℕ → Slot → List ℕ → Book
 withSlot b next k s free = record { next = next; tick = b .tick; slots = set (b .slots) k s; free = free }
 
-pub withSlot-valid : (b : Book) (next k : ℕ) (s : Slot) (free : List ℕ) → Valid b → b .next ≤ next → soundStop next (b .tick) s ≡ true
-    → All (SlotsDiffer s) (set (b .slots) k vacant) → sortRising free ≡ vacantIndices 1 (set (b .slots) k s) → Valid (withSlot b next k s free)
+pub withSlot-valid : (b : Book) (next k : ℕ) (s : Slot) (free : List ℕ) → Valid b → b .next ≤ next
+    → soundStop next (b .tick) s ≡ true
+    → All (SlotsDiffer s) (set (b .slots) k vacant) → sortRising free ≡ vacantIndices 1 (set (b .slots) k s)
+    → Valid (withSlot b next k s free)
 withSlot-valid b next k s free v later sound apart indices = record {
   some-records = rw length-set (v .some-records);
   few-records = rw length-set (v .few-records);
@@ -45,8 +47,13 @@ withSlot-valid b next k s free v later sound apart indices = record {
   free-vacant = indices;
 }
 
-pub withSlot-fits : (b : Book) (next k : ℕ) (s : Slot) (free : List ℕ) → Fits b → next < 2 ^ 64 → SlotFits s → Fits (withSlot b next k s free)
-withSlot-fits b next k s free f h fits = record { next = h; tick = f .tick; slots = all-set SlotFits (b .slots) k s fits (f .slots) }
+pub withSlot-fits : (b : Book) (next k : ℕ) (s : Slot) (free : List ℕ) → Fits b → next < 2 ^ 64 → SlotFits s
+    → Fits (withSlot b next k s free)
+withSlot-fits b next k s free f h fits = record {
+  next = h;
+  tick = f .tick;
+  slots = all-set SlotFits (b .slots) k s fits (f .slots);
+}
 
 ------------------------------------------------------------------------
 -- The empty book
@@ -77,18 +84,21 @@ emptyBook-length n tick = length-replicate n vacant
 ------------------------------------------------------------------------
 -- Admission
 
--- the head of the free chain is the index of a vacant record, and the others are those of the vacant records after it is taken
+-- the head of the free chain is the index of a vacant record, and the others are those of the vacant records after it
+-- is taken
 pub free-taken : (t : StopEntry) (b : Book) → Valid b → pendingCount (b .slots) < length (b .slots)
     → Taken (headOr0 (b .free)) 1 (sortRising (drop 1 (b .free))) (b .slots) t
 unfolding headOr0 sortBy
 free-taken t b v room = go (b .free) (v .free-vacant)
   where
-    go : (l : List ℕ) → sortRising l ≡ vacantIndices 1 (b .slots) → Taken (headOr0 l) 1 (sortRising (drop 1 l)) (b .slots) t
+    go : (l : List ℕ) → sortRising l ≡ vacantIndices 1 (b .slots)
+        → Taken (headOr0 l) 1 (sortRising (drop 1 l)) (b .slots) t
     go [] e = absurd (omega (arith, pendingCount-vacant 1 (b .slots), ap length e))
     go (i ∷ l) e = vacantIndices-taken i 1 (sortRising l) (b .slots) t e
 
 -- the place of the record that is taken
-pub taken-place : (t : StopEntry) (b : Book) (r : Taken (headOr0 (b .free)) 1 (sortRising (drop 1 (b .free))) (b .slots) t) → headOr0 (b .free) - 1 ≡ r .place
+pub taken-place : (t : StopEntry) (b : Book)
+    (r : Taken (headOr0 (b .free)) 1 (sortRising (drop 1 (b .free))) (b .slots) t) → headOr0 (b .free) - 1 ≡ r .place
 taken-place t b r = omega (arith, r .is)
 
 pub admitted-valid : (t : StopEntry) (b : Book) → Valid b → Admissible t b → Valid (admitted t b)
@@ -97,7 +107,12 @@ admitted-valid t b v a =
     let r = free-taken t b v (a .room) in
     withSlot-valid b (b .next + 1) (headOr0 (b .free) - 1) (held t) (drop 1 (b .free)) v (omega arith)
     (sound-of (b .next + 1) (b .tick) t
-    (record { sequence = omega (arith, a .next-sequence); quantity = a .some-quantity; terms = a .terms; on-tick = a .on-tick }))
+    (record {
+      sequence = omega (arith, a .next-sequence);
+      quantity = a .some-quantity;
+      terms = a .terms;
+      on-tick = a .on-tick;
+    }))
     (all-set (SlotsDiffer (held t)) (b .slots) (headOr0 (b .free) - 1) vacant (slotsDiffer-vacant (held t))
     (all-map-both (λ s u e. new-slotsDiffer t (b .next) (b .tick) s (omega (arith, a .next-sequence)) u e) (b .slots)
     (lookup-none (t .id) b (a .absent)) (v .sound)))
@@ -111,16 +126,20 @@ pub admitted-length : (t : StopEntry) (b : Book) → length (admitted t b .slots
 unfolding admitted
 admitted-length t b = length-set (b .slots) (headOr0 (b .free) - 1) (held t)
 
-pub admitted-count : (t : StopEntry) (b : Book) → Valid b → pendingCount (b .slots) < length (b .slots) → pendingCount (admitted t b .slots) ≡ suc (pendingCount (b .slots))
+pub admitted-count : (t : StopEntry) (b : Book) → Valid b → pendingCount (b .slots) < length (b .slots)
+    → pendingCount (admitted t b .slots) ≡ suc (pendingCount (b .slots))
 unfolding admitted pendingCount
 admitted-count t b v room =
     let r = free-taken t b v room in
-    rw (taken-place t b r) (omega (arith, rw (r .vacant-there) at (pendingCount-set (b .slots) (r .place) (held t) (r .inside))))
+    rw (taken-place t b r)
+    (omega (arith, rw (r .vacant-there) at (pendingCount-set (b .slots) (r .place) (held t) (r .inside))))
 
 -- where every question of an admission is answered yes
-pub admission-admissible : (kill : Bool) (trade : LastPrice) (id : Id) (terms : StopTerms) (quantity : Quantity) (w : List ℕ)
+pub admission-admissible : (kill : Bool) (trade : LastPrice) (id : Id) (terms : StopTerms) (quantity : Quantity)
+    (w : List ℕ)
     → firstNo (admissionQuestions kill trade id terms quantity w) ≡ none
-    → (wellFormed w ≡ true) × Admissible (newEntry id terms quantity (bookOf w)) (bookOf w) × (bookOf w .next + 1 < 2 ^ 64)
+    → (wellFormed w ≡ true) × Admissible (newEntry id terms quantity (bookOf w)) (bookOf w)
+    × (bookOf w .next + 1 < 2 ^ 64)
 unfolding admissionQuestions newEntry
 admission-admissible kill trade id terms quantity w e =
     let q = firstNo-none (admissionQuestions kill trade id terms quantity w) e in
@@ -144,7 +163,9 @@ pub vacated-valid : (p : Pending) (b : Book) → Valid b → InBook (b .slots) p
 unfolding vacated soundStop sortBy
 vacated-valid p b v h =
     let e : 1 + (p .index - 1) ≡ p .index = omega (arith, h .from) in
-    withSlot-valid b (b .next) (p .index - 1) vacant (p .index ∷ b .free) v (omega arith) refl (all-of (λ s. tt) (set (b .slots) (p .index - 1) vacant))
+    withSlot-valid b (b .next)
+    (p .index - 1) vacant (p .index ∷ b .free) v (omega arith) refl
+    (all-of (λ s. tt) (set (b .slots) (p .index - 1) vacant))
     (rw (v .free-vacant) (rw e at (vacantIndices-vacated 1 (b .slots) (p .index - 1) (p .entry) (h .there))))
 
 pub vacated-fits : (i : ℕ) (b : Book) → Fits b → Fits (vacated i b)
@@ -155,6 +176,8 @@ pub vacated-length : (i : ℕ) (b : Book) → length (vacated i b .slots) ≡ le
 unfolding vacated
 vacated-length i b = length-set (b .slots) (i - 1) vacant
 
-pub vacated-count : (p : Pending) (b : Book) → InBook (b .slots) p → suc (pendingCount (vacated (p .index) b .slots)) ≡ pendingCount (b .slots)
+pub vacated-count : (p : Pending) (b : Book) → InBook (b .slots) p
+    → suc (pendingCount (vacated (p .index) b .slots)) ≡ pendingCount (b .slots)
 unfolding vacated pendingCount
-vacated-count p b h = omega (arith, rw (h .there) at (pendingCount-set (b .slots) (p .index - 1) vacant (omega (arith, h .from, h .to))))
+vacated-count p b h =
+    omega (arith, rw (h .there) at (pendingCount-set (b .slots) (p .index - 1) vacant (omega (arith, h .from, h .to))))

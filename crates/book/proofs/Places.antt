@@ -56,7 +56,8 @@ module _ (ws : List ℕ) (long : nextByStop ≤ length ws) (a c : ℕ) where
       let q : k ≡ length (take nextByStop ws) + suc (suc (k - nextByWatermark - 1))
       = omega (arith, front-length, ltb-false k nextByStop e, d .no-stop-link, d .no-watermark-link) in
       rw q (getD-append-add (take nextByStop ws) (a ∷ c ∷ drop nextByStop ws) (suc (suc (k - nextByWatermark - 1))) 0
-      ∙ sym (getD-append-add (take nextByStop ws) (0 ∷ 0 ∷ drop nextByStop ws) (suc (suc (k - nextByWatermark - 1))) 0)))
+      ∙ sym (getD-append-add (take nextByStop ws) (0 ∷ 0 ∷ drop nextByStop ws)
+      (suc (suc (k - nextByWatermark - 1))) 0)))
 
 pub slot-long : (s : Slot) → nextByStop ≤ length (dataWords s)
 slot-long s = omega (arith, dataWords-length s)
@@ -64,7 +65,11 @@ slot-long s = omega (arith, dataWords-length s)
 pub recordWords-length : (b : Book) (i : ℕ) (s : Slot) → length (recordWords b i s) ≡ recordLength
 unfolding recordWords
 recordWords-length b i s =
-    omega (arith, withLinks-length (dataWords s) (slot-long s) (afterByStop b i s) (afterByWatermark b i s), dataWords-length s)
+    omega (
+      arith,
+      withLinks-length (dataWords s) (slot-long s) (afterByStop b i s) (afterByWatermark b i s),
+      dataWords-length s,
+    )
 
 pub recordWords-data : (b : Book) (i : ℕ) (s : Slot) (k : ℕ) → IsData k → getD (recordWords b i s) k 0 ≡ dataWord s k
 unfolding recordWords
@@ -76,7 +81,8 @@ recordWords-data b i s = withLinks-data (dataWords s) (slot-long s) (afterByStop
 recordsWords-length : (b : Book) (i : ℕ) (ss : List Slot) → length (recordsWords b i ss) ≡ recordLength * length ss
 unfolding recordsWords
 recordsWords-length b i [] = refl
-recordsWords-length b i (s ∷ ss) = rw length-append (omega (arith, recordWords-length b i s, recordsWords-length b (suc i) ss))
+recordsWords-length b i (s ∷ ss) =
+    rw length-append (omega (arith, recordWords-length b i s, recordsWords-length b (suc i) ss))
 
 pub layout-length : (b : Book) → length (layout b) ≡ storeLength (length (b .slots))
 unfolding layout
@@ -103,18 +109,22 @@ recordsWords-record b i [] r m k h l = absurd (omega arith)
 recordsWords-record b i (s ∷ ss) r zero k h l =
     let z : recordLength * 0 + k ≡ k = omega arith in
     let e : i + 0 ≡ i = omega arith in
-    rw (z, e, append-assoc) (List·getD-append (recordWords b i s) (recordsWords b (suc i) ss ++ r) 0 k (rw (recordWords-length b i s) l))
+    rw (z, e, append-assoc)
+    (List·getD-append (recordWords b i s) (recordsWords b (suc i) ss ++ r) 0 k (rw (recordWords-length b i s) l))
 recordsWords-record b i (s ∷ ss) r (suc m) k h l =
-    let z : recordLength * suc m + k ≡ length (recordWords b i s) + (recordLength * m + k) = omega (arith, recordWords-length b i s) in
+    let z : recordLength * suc m + k ≡ length (recordWords b i s) + (recordLength * m + k) =
+    omega (arith, recordWords-length b i s) in
     let e : i + suc m ≡ suc i + m = omega arith in
-    rw (z, e, append-assoc, getD-append-add (recordWords b i s)) (recordsWords-record b (suc i) ss r m k (omega arith) l)
+    rw (z, e, append-assoc, getD-append-add (recordWords b i s))
+    (recordsWords-record b (suc i) ss r m k (omega arith) l)
 
 -- word k of record i
 pub layout-record : (b : Book) (r : List ℕ) (i k : ℕ) → 1 ≤ i → i ≤ length (b .slots) → k < recordLength
     → recordWord (layout b ++ r) i k ≡ getD (recordWords b i (getD (b .slots) (i - 1) vacant)) k 0
 unfolding layout recordWord cell
 layout-record b r i k low high l =
-    let z : headerLength + recordLength * (i - 1) + k ≡ length (header b) + (recordLength * (i - 1) + k) = omega (arith, header-length b) in
+    let z : headerLength + recordLength * (i - 1) + k ≡ length (header b) + (recordLength * (i - 1) + k) =
+    omega (arith, header-length b) in
     let e : 1 + (i - 1) ≡ i = omega arith in
     rw (z, append-assoc, getD-append-add (header b))
     (rw e at (recordsWords-record b 1 (b .slots) r (i - 1) k (omega arith) l))

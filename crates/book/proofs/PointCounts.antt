@@ -23,7 +23,8 @@ use Rattle.book.specs.declared.StopEntry.{StopEntry}
 
 -- a stop is of one side
 pub length-ofSide : (i : ℕ) (side : Side) (t : StopEntry) (ps qs : List Pending)
-    → length (withIndex i (ofSide Sell side t) ps) + length (withIndex i (ofSide Buy side t) qs) ≡ suc (length ps + length qs)
+    → length (withIndex i (ofSide Sell side t) ps) + length (withIndex i (ofSide Buy side t) qs) ≡ suc
+    (length ps + length qs)
 unfolding ofSide withIndex
 length-ofSide i Sell t ps qs = omega arith
 length-ofSide i Buy t ps qs = omega arith
@@ -33,12 +34,14 @@ length-ofSide i Buy t ps qs = omega arith
 
 -- as many records are pending less as are vacant more
 pub point-count : (kill sellsFirst : Bool) (price : Price) (b : Book)
-    → pendingCount (b .slots) ≡ pendingCount (point kill sellsFirst price b .book .slots) + length (point kill sellsFirst price b .fills)
+    → pendingCount (b .slots) ≡ pendingCount (point kill sellsFirst price b .book .slots) + length
+    (point kill sellsFirst price b .fills)
 unfolding point
 point-count kill sellsFirst price b =
     let ss = b .slots in
     let out = electedBy kill sellsFirst price b in
-    let indices = electedBy-indices kill sellsFirst price b (vacantIndices 1 ss) ∙ vacantIndices-settled kill price 1 ss in
+    let indices = electedBy-indices kill sellsFirst price b (vacantIndices 1 ss)
+    ∙ vacantIndices-settled kill price 1 ss in
     rw (length-map out (fillAt price)) (omega (
       arith,
       pendingCount-vacant 1 ss,
@@ -58,16 +61,19 @@ movers-count price i [] = omega arith
 movers-count price i (vacant ∷ ss) = movers-count price (suc i) ss
 movers-count price i (held t ∷ ss) =
     let ih = movers-count price (suc i) ss in
-    let both = length-ofSide i (sideOf t) t (gather (mover price Sell) (suc i) ss) (gather (mover price Buy) (suc i) ss) in
+    let both = length-ofSide i (sideOf t) t (gather (mover price Sell) (suc i) ss)
+    (gather (mover price Buy) (suc i) ss) in
     cases (eqb (stopOf (trailed price t)) (stopOf t)) (λ e. rw e (omega arith)) (λ e. rw e (omega arith))
 
-pub point-moves : (kill sellsFirst : Bool) (price : Price) (b : Book) → length (point kill sellsFirst price b .moved) ≤ pendingCount (b .slots)
+pub point-moves : (kill sellsFirst : Bool) (price : Price) (b : Book)
+    → length (point kill sellsFirst price b .moved) ≤ pendingCount (b .slots)
 unfolding point movedBy movedOn
 point-moves kill sellsFirst price b = simp (length-append, length-map, sortBy-length) (movers-count price 1 (b .slots))
 
 ------------------------------------------------------------------------
 -- The records
 
-pub point-records : (kill sellsFirst : Bool) (price : Price) (b : Book) → length (point kill sellsFirst price b .book .slots) ≡ length (b .slots)
+pub point-records : (kill sellsFirst : Bool) (price : Price) (b : Book)
+    → length (point kill sellsFirst price b .book .slots) ≡ length (b .slots)
 unfolding point
 point-records kill sellsFirst price b = length-map (b .slots) (settled kill price)

@@ -25,16 +25,19 @@ use Rattle.book.specs.Words.{consistent, soundStop, differs, allDiffer}
 use Rattle.book.specs.declared.StopEntry.{StopEntry}
 
 -- what holds of a free record, and of a stop after trailing, holds of a record after a point
-pub settled-keeps : (P : Slot → Type 0) (kill : Bool) (price : Price) (s : Slot) → P vacant → ((t : StopEntry) → s ≡ held t → P (held (trailed price t)))
+pub settled-keeps : (P : Slot → Type 0) (kill : Bool) (price : Price) (s : Slot) → P vacant
+    → ((t : StopEntry) → s ≡ held t → P (held (trailed price t)))
     → P (settled kill price s)
 unfolding settled vacatedIf
 settled-keeps P kill price vacant h k = h
-settled-keeps P kill price (held t) h k = cases (leaves kill price (trailed price t)) (λ e. rw e h) (λ e. rw e (k t refl))
+settled-keeps P kill price (held t) h k =
+    cases (leaves kill price (trailed price t)) (λ e. rw e h) (λ e. rw e (k t refl))
 
 ------------------------------------------------------------------------
 -- Soundness
 
-pub trailed-consistent : (price : Price) (t : StopEntry) → consistent (t .terms) ≡ true → consistent (trailed price t .terms) ≡ true
+pub trailed-consistent : (price : Price) (t : StopEntry) → consistent (t .terms) ≡ true
+    → consistent (trailed price t .terms) ≡ true
 unfolding trailed trailedAt ratcheted withinWatermark
 trailed-consistent price t e =
     let h = consistent-parts (t .terms) e in
@@ -43,11 +46,13 @@ trailed-consistent price t e =
     (λ f. consistent-of (trailed price t .terms) (rw f (h .0)) (rw (
       f,
       behind-asym s _ (price .0)
-          (tightened-behind s (t .terms .trail) (price .0) (t .terms .stop .0) (h .0) (behind-under s _ _ _ (not-true _ (h .1)) f)),
+          (tightened-behind s (t .terms .trail) (price .0) (t .terms .stop .0) (h .0)
+          (behind-under s _ _ _ (not-true _ (h .1)) f)),
     )))
     (λ f. consistent-of (trailed price t .terms) (rw f (h .0)) (rw f (h .1)))
 
-pub trailed-sound : (next tick : ℕ) (price : Price) (t : StopEntry) → soundStop next tick (held t) ≡ true → soundStop next tick (held (trailed price t)) ≡ true
+pub trailed-sound : (next tick : ℕ) (price : Price) (t : StopEntry) → soundStop next tick (held t) ≡ true
+    → soundStop next tick (held (trailed price t)) ≡ true
 unfolding trailed
 trailed-sound next tick price t e =
     let s = sound-parts next tick t e in
@@ -58,21 +63,25 @@ trailed-sound next tick price t e =
       on-tick = rw (trailed-keeps price t .1) (s .on-tick);
     })
 
-pub settled-sound : (next tick : ℕ) (kill : Bool) (price : Price) (s : Slot) → soundStop next tick s ≡ true → soundStop next tick (settled kill price s) ≡ true
+pub settled-sound : (next tick : ℕ) (kill : Bool) (price : Price) (s : Slot) → soundStop next tick s ≡ true
+    → soundStop next tick (settled kill price s) ≡ true
 unfolding soundStop
 settled-sound next tick kill price s e =
-    settled-keeps (λ u. soundStop next tick u ≡ true) kill price s refl (λ t f. trailed-sound next tick price t (rw f at e))
+    settled-keeps (λ u. soundStop next tick u ≡ true) kill price s refl
+    (λ t f. trailed-sound next tick price t (rw f at e))
 
 ------------------------------------------------------------------------
 -- Identities and sequences
 
 -- a record that differs from a stop still does after a point, and from the stop after trailing
-pub settled-differs : (kill : Bool) (price : Price) (t : StopEntry) (s : Slot) → differs t s ≡ true → differs (trailed price t) (settled kill price s) ≡ true
+pub settled-differs : (kill : Bool) (price : Price) (t : StopEntry) (s : Slot) → differs t s ≡ true
+    → differs (trailed price t) (settled kill price s) ≡ true
 unfolding differs trailed
 settled-differs kill price t s e =
     settled-keeps (λ u. differs (trailed price t) u ≡ true) kill price s refl (λ u f. rw f at e)
 
-pub settled-allDiffer : (kill : Bool) (price : Price) (ss : List Slot) → allDiffer ss ≡ true → allDiffer (map (settled kill price) ss) ≡ true
+pub settled-allDiffer : (kill : Bool) (price : Price) (ss : List Slot) → allDiffer ss ≡ true
+    → allDiffer (map (settled kill price) ss) ≡ true
 unfolding allDiffer settled vacatedIf
 settled-allDiffer kill price [] e = refl
 settled-allDiffer kill price (vacant ∷ ss) e = settled-allDiffer kill price ss e
@@ -83,14 +92,16 @@ settled-allDiffer kill price (held t ∷ ss) e =
     (λ f. rw (
       f,
       all-every (differs (trailed price t)) (map (settled kill price) ss)
-          (all-mapped (λ s. differs t s ≡ true) (λ s. differs (trailed price t) s ≡ true) (settled kill price) (settled-differs kill price t) ss
+          (all-mapped (λ s. differs t s ≡ true) (λ s. differs (trailed price t) s ≡ true) (settled kill price)
+          (settled-differs kill price t) ss
           (every-all (differs t) ss (h .0))),
     ) ih)
 
 ------------------------------------------------------------------------
 -- Words
 
-pub tightened-fits : (s : Side) (trail price stop : ℕ) → price < 2 ^ 64 → stop < 2 ^ 64 → tightened s stop (candidate s trail price) < 2 ^ 64
+pub tightened-fits : (s : Side) (trail price stop : ℕ) → price < 2 ^ 64 → stop < 2 ^ 64
+    → tightened s stop (candidate s trail price) < 2 ^ 64
 unfolding tightened candidate
 tightened-fits Sell trail price stop h k = cases (leb trail price) (λ e. rw e (omega arith)) (λ e. rw e k)
 tightened-fits Buy trail price stop h k = cases (ltb (price + trail) (2 ^ 64)) (λ e. rw e (omega arith)) (λ e. rw e k)
@@ -109,5 +120,6 @@ trailed-fits price t h k = cases (behind (t .terms .side) (t .terms .watermark .
     })
     (λ e. rw (trailed, e) k)
 
-pub settled-fits : (kill : Bool) (price : Price) → price .0 < 2 ^ 64 → (s : Slot) → SlotFits s → SlotFits (settled kill price s)
+pub settled-fits : (kill : Bool) (price : Price) → price .0 < 2 ^ 64 → (s : Slot) → SlotFits s
+    → SlotFits (settled kill price s)
 settled-fits kill price h s k = settled-keeps SlotFits kill price s tt (λ t e. trailed-fits price t h (rw e at k))

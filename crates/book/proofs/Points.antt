@@ -1,5 +1,6 @@
--- Two points are one: from a book settled at o, a point at p and then one at q, along o, p, q in one direction, leave what the point at q
--- leaves and take out what it takes out, whichever side goes first. First for a record, then for the book.
+-- Two points are one: from a book settled at o, a point at p and then one at q, along o, p, q in one direction, leave
+-- what the point at q leaves and take out what it takes out, whichever side goes first. First for a record, then for
+-- the book.
 use Prim.Native.Nat.{ℕ, suc}
 use mathlib.Core.Path.{_≡_, refl, _∙_}
 use mathlib.Core.Bool.{Bool, true, false}
@@ -34,7 +35,8 @@ slot-trails kill p (held t) w = w .trails
 slot-settled : (kill : Bool) (p : Price) (s : Slot) → Trails s → SlotSettled kill p (settled kill p s)
 unfolding settled vacatedIf
 slot-settled kill p vacant h = tt
-slot-settled kill p (held t) h = cases (leaves kill p (trailed p t)) (λ e. rw e tt) (λ e. rw e (trailed-settled kill p t h e))
+slot-settled kill p (held t) h =
+    cases (leaves kill p (trailed p t)) (λ e. rw e tt) (λ e. rw e (trailed-settled kill p t h e))
 
 slot-still : (kill : Bool) (p : Price) (s : Slot) → SlotSettled kill p s → settled kill p s ≡ s
 unfolding settled vacatedIf
@@ -44,7 +46,8 @@ slot-still kill p (held t) w = rw (trailed-still p t (w .reached), w .stays)
 -- what a record is after both points, and what it gives up at each
 record Merged (kill : Bool) (p q : Price) (s : Slot) : Type 0 where
   same : settled kill q (settled kill p s) ≡ settled kill q s
-  part : (d : Side) → Part (Met d p) (Unmet d p) (leaver kill p d s) (leaver kill q d (settled kill p s)) (leaver kill q d s)
+  part : (d : Side) → Part (Met d p) (Unmet d p) (leaver kill p d s) (leaver kill q d (settled kill p s))
+      (leaver kill q d s)
 
 -- a stop whose side the run takes along trails, and stays
 merged-along : (kill : Bool) (o p q : Price) (t : StopEntry) → Settled kill o t
@@ -67,9 +70,15 @@ merged-against kill o p q t w h k =
     cases (leaves kill p t)
     (λ e.
     let f = leaves-further kill p q t k e in
-    record { same = rw (at-p, e, at-q, f); part = λ d. rw (at-p, e, at-q, f) (part-early d (sideOf t) p t (leaves-not-behind kill p t e)) })
+    record {
+      same = rw (at-p, e, at-q, f);
+      part = λ d. rw (at-p, e, at-q, f) (part-early d (sideOf t) p t (leaves-not-behind kill p t e));
+    })
     (λ e. cases (leaves kill q t)
-    (λ f. record { same = rw (at-p, e); part = λ d. rw (at-p, e, at-q, f) (part-late d (sideOf t) p t (waits-behind kill p q t e f)) })
+    (λ f. record {
+      same = rw (at-p, e);
+      part = λ d. rw (at-p, e, at-q, f) (part-late d (sideOf t) p t (waits-behind kill p q t e f));
+    })
     (λ f. record { same = rw (at-p, e); part = λ d. rw (at-p, e, at-q, f) never }))
 
 -- a run along one side is a run against the other
@@ -98,7 +107,8 @@ same-side-or-none Sell Buy t = inr refl
 same-side-or-none Buy Sell t = inr refl
 same-side-or-none Buy Buy t = inl refl
 
-leaver-none : (kill : Bool) (o q : Price) (d : Side) → behind d (q .0) (o .0) ≡ false → (s : Slot) → SlotSettled kill o s
+leaver-none : (kill : Bool) (o q : Price) (d : Side) → behind d (q .0) (o .0) ≡ false → (s : Slot)
+    → SlotSettled kill o s
     → leaver kill q d s ≡ none
 unfolding leaver leavingOn
 leaver-none kill o q d h vacant w = refl
@@ -110,7 +120,8 @@ leaver-none kill o q d h (held t) w = elim (same-side-or-none d (sideOf (trailed
 ------------------------------------------------------------------------
 -- Over the records
 
-pub gather-none : (choice : Slot → Option StopEntry) (i : ℕ) (ss : List Slot) → All (λ s. choice s ≡ none) ss → gather choice i ss ≡ []
+pub gather-none : (choice : Slot → Option StopEntry) (i : ℕ) (ss : List Slot) → All (λ s. choice s ≡ none) ss
+    → gather choice i ss ≡ []
 unfolding gather withIndex
 gather-none choice i [] h = refl
 gather-none choice i (s ∷ ss) h = rw (h .0, gather-none choice (suc i) ss (h .1))
@@ -129,17 +140,22 @@ BookSettled kill p b = All (SlotSettled kill p) (b .slots)
 pub settled-trails : (kill : Bool) (p : Price) (b : Book) → BookSettled kill p b → All Trails (b .slots)
 settled-trails kill p b w = all-map (slot-trails kill p) (b .slots) w
 
-pub point-settled : (kill first : Bool) (p : Price) (b : Book) → All Trails (b .slots) → BookSettled kill p (point kill first p b .book)
+pub point-settled : (kill first : Bool) (p : Price) (b : Book) → All Trails (b .slots)
+    → BookSettled kill p (point kill first p b .book)
 unfolding point
-point-settled kill first p b h = all-mapped Trails (SlotSettled kill p) (settled kill p) (slot-settled kill p) (b .slots) h
+point-settled kill first p b h =
+    all-mapped Trails (SlotSettled kill p) (settled kill p) (slot-settled kill p) (b .slots) h
 
-pub point-trails : (kill first : Bool) (p : Price) (b : Book) → All Trails (b .slots) → All Trails (point kill first p b .book .slots)
+pub point-trails : (kill first : Bool) (p : Price) (b : Book) → All Trails (b .slots)
+    → All Trails (point kill first p b .book .slots)
 point-trails kill first p b h = settled-trails kill p (point kill first p b .book) (point-settled kill first p b h)
 
-electedOn-none : (kill : Bool) (o q : Price) (d : Side) (b : Book) → behind d (q .0) (o .0) ≡ false → BookSettled kill o b
+electedOn-none : (kill : Bool) (o q : Price) (d : Side) (b : Book) → behind d (q .0) (o .0) ≡ false
+    → BookSettled kill o b
     → electedOn kill q d b ≡ []
 unfolding electedOn sortBy
-electedOn-none kill o q d b h w = rw (gather-none (leaver kill q d) 1 (b .slots) (all-map (leaver-none kill o q d h) (b .slots) w))
+electedOn-none kill o q d b h w =
+    rw (gather-none (leaver kill q d) 1 (b .slots) (all-map (leaver-none kill o q d h) (b .slots) w))
 
 unfoldable opposite : Side → Side
 opposite Sell = Buy
@@ -156,10 +172,12 @@ electedBy-one-side kill false q Buy b e = rw e
 
 module _ (kill f g h : Bool) (o p q : Price) (d : Side) (b : Book) (op : behind d (p .0) (o .0) ≡ false)
     (pq : behind d (q .0) (p .0) ≡ false) (w : BookSettled kill o b) where
-  electedOn-merged : (e : Side) → electedOn kill q e b ≡ electedOn kill p e b ++ electedOn kill q e (point kill f p b .book)
+  electedOn-merged : (e : Side)
+      → electedOn kill q e b ≡ electedOn kill p e b ++ electedOn kill q e (point kill f p b .book)
   unfolding electedOn point
   electedOn-merged e =
-      parted (ByStop e) (Met e p) (Unmet e p) (stops-apart e p) (leaver kill p e) (leaver kill q e) (leaver kill q e) (settled kill p) 1 (b .slots)
+      parted (ByStop e) (Met e p) (Unmet e p) (stops-apart e p) (leaver kill p e) (leaver kill q e) (leaver kill q e)
+      (settled kill p) 1 (b .slots)
       (all-map (λ s v. merged kill o p q d op pq s v .part e) (b .slots) w) .joined
 
   pub electedBy-merged : electedBy kill h q b ≡ electedBy kill f p b ++ electedBy kill g q (point kill f p b .book)
@@ -193,4 +211,9 @@ module _ (kill first : Bool) (o : Price) (b : Book) (w : BookSettled kill o b) w
 
   pub book-again : point kill first o b .book ≡ b
   unfolding point freed
-  book-again = rw (electedBy-again, map-agree (settled kill o) (λ s. s) (b .slots) (all-map (slot-still kill o) (b .slots) w), map-id (b .slots))
+  book-again = rw (
+    electedBy-again,
+    map-agree (settled kill o) (λ s. s) (b .slots)
+        (all-map (slot-still kill o) (b .slots) w),
+    map-id (b .slots),
+  )

@@ -1,4 +1,5 @@
--- What the questions of a call leave: none is answered no exactly where all are answered yes; and what holds of both outcomes holds.
+-- What the questions of a call leave: none is answered no exactly where all are answered yes; and what holds of both
+-- outcomes holds.
 use Prim.Native.Nat.{ℕ}
 use native.Mathlib.Omega.{arith}
 use mathlib.Core.Path.{_≡_, refl}
@@ -21,7 +22,8 @@ firstNo-none (q ∷ qs) e = cases (q .holds)
     (λ f. (f, firstNo-none qs (rw f at e)))
     (λ f. let g : some (q .number) ≡ none = rw f at e in let z : _≡_ {A = ℕ} 0 1 = cc in absurd (omega arith))
 
-pub decide-outcomes : {A : Type 0} (P : A → Type 0) (x : Option ℕ) (refusal : ℕ → A) (acceptance : A) → ((k : ℕ) → P (refusal k)) → (x ≡ none → P acceptance)
+pub decide-outcomes : {A : Type 0} (P : A → Type 0) (x : Option ℕ) (refusal : ℕ → A) (acceptance : A)
+    → ((k : ℕ) → P (refusal k)) → (x ≡ none → P acceptance)
     → P (decide x refusal acceptance)
 unfolding decide
 decide-outcomes P none refusal acceptance h g = g refl

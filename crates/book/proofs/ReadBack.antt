@@ -51,7 +51,11 @@ slotAt-words w b i (held t) h words =
     let n : recordWord w i 7 ≢ 0 = omega (arith, sound-parts (b .next) (b .tick) t h .quantity) in
     rw (ne-eqb (recordWord w i 7) 0 n)
     (λ x. held (record {
-      id = record { kind = (ap kindOf (words 0 (omega arith)) ∙ kindOf-number (t .id .kind)) x; high = words 1 (omega arith) x; low = words 2 (omega arith) x };
+      id = record {
+        kind = (ap kindOf (words 0 (omega arith)) ∙ kindOf-number (t .id .kind)) x;
+        high = words 1 (omega arith) x;
+        low = words 2 (omega arith) x;
+      };
       terms = record {
         side = (ap sideFrom (words 3 (omega arith)) ∙ sideFrom-number (t .terms .side)) x;
         stop = record { 0 = words 4 (omega arith) x };
@@ -68,7 +72,8 @@ slotsAt-length w i zero = refl
 slotsAt-length w i (suc k) = ap suc (slotsAt-length w (suc i) k)
 
 -- slots that stand at their places read back, from index i on
-slotsAt-slots : (w : List ℕ) (i : ℕ) (ss : List Slot) → ((m : ℕ) → m < length ss → slotAt w (i + m) ≡ getD ss m vacant) → slotsAt w i (length ss) ≡ ss
+slotsAt-slots : (w : List ℕ) (i : ℕ) (ss : List Slot) → ((m : ℕ) → m < length ss → slotAt w (i + m) ≡ getD ss m vacant)
+    → slotsAt w i (length ss) ≡ ss
 unfolding slotsAt
 slotsAt-slots w i [] h = refl
 slotsAt-slots w i (s ∷ ss) h =
@@ -90,7 +95,8 @@ unfolding nextIn
 nextIn-there i j l n = rw (ne-eqb j i (λ e. n (sym e)))
 
 -- a chain without repeats is read along the links in word 9 of its records
-freeFrom-chain : (w : List ℕ) (k : ℕ) (l : List ℕ) → length l ≤ k → Distinct l → All (λ i. (1 ≤ i) × (recordWord w i nextByStop ≡ nextIn l i)) l
+freeFrom-chain : (w : List ℕ) (k : ℕ) (l : List ℕ) → length l ≤ k → Distinct l
+    → All (λ i. (1 ≤ i) × (recordWord w i nextByStop ≡ nextIn l i)) l
     → freeFrom w k (headOr0 l) ≡ l
 unfolding freeFrom headOr0
 freeFrom-chain w zero [] h d links = refl
@@ -99,7 +105,8 @@ freeFrom-chain w (suc k) [] h d links = refl
 freeFrom-chain w (suc k) (i ∷ l) h d links =
     let next : recordWord w i nextByStop ≡ headOr0 l = links .0 .1 ∙ nextIn-here i l in
     let rest =
-    all-map-both {P = λ j. i ≢ j} {Q = λ j. (1 ≤ j) × (recordWord w j nextByStop ≡ nextIn (i ∷ l) j)} {R = λ j. (1 ≤ j) × (recordWord w j nextByStop ≡ nextIn l j)}
+    all-map-both {P = λ j. i ≢ j} {Q = λ j. (1 ≤ j) × (recordWord w j nextByStop ≡ nextIn (i ∷ l) j)} {R = λ j. (1 ≤ j)
+    × (recordWord w j nextByStop ≡ nextIn l j)}
     (λ j n e. (e .0, e .1 ∙ nextIn-there i j l n)) l (d .0) (links .1) in
     rw (ne-eqb i 0 (omega arith), next, freeFrom-chain w k l (omega arith) (d .1) rest)
 
@@ -115,7 +122,8 @@ module _ (b : Book) (r : List ℕ) (v : Valid b) where
       (all-getD (λ s. soundStop (b .next) (b .tick) s ≡ true) (b .slots) m vacant refl (v .sound))
       (λ k h. rw e at (layout-record b r (1 + m) k (omega arith) (omega arith) h))
 
-  free-link : (i : ℕ) → VacantFrom 1 (b .slots) i → (1 ≤ i) × (recordWord (layout b ++ r) i nextByStop ≡ nextIn (b .free) i)
+  free-link : (i : ℕ) → VacantFrom 1 (b .slots) i
+      → (1 ≤ i) × (recordWord (layout b ++ r) i nextByStop ≡ nextIn (b .free) i)
   unfolding recordWords dataWords afterByStop afterByWatermark withLinks
   free-link i h = (h .low, rw (h .is-vacant) at (layout-record b r i 9 (h .low) (omega arith) (omega arith)))
 
@@ -129,11 +137,18 @@ module _ (b : Book) (r : List ℕ) (v : Valid b) where
   freeFrom-layout : freeFrom (layout b ++ r) (getD (layout b ++ r) 0 0) (getD (layout b ++ r) 8 0) ≡ b .free
   unfolding header
   freeFrom-layout =
-      let links = all-map {Q = λ i. (1 ≤ i) × (recordWord (layout b ++ r) i nextByStop ≡ nextIn (b .free) i)} free-link (b .free) (free-all-vacant b v) in
+      let links = all-map {Q = λ i. (1 ≤ i) × (recordWord (layout b ++ r) i nextByStop ≡ nextIn (b .free) i)} free-link
+      (b .free) (free-all-vacant b v) in
       rw (header-word 0 (omega arith), header-word 8 (omega arith))
-      (freeFrom-chain (layout b ++ r) (length (b .slots)) (b .free) (omega (arith, free-count b v)) (free-distinct b v) links)
+      (freeFrom-chain (layout b ++ r) (length (b .slots)) (b .free) (omega (arith, free-count b v))
+      (free-distinct b v) links)
 
   pub bookOf-layout : bookOf (layout b ++ r) ≡ b
   unfolding bookOf header
   bookOf-layout =
-      λ x. record { next = header-word 2 (omega arith) x; tick = header-word 3 (omega arith) x; slots = slotsAt-layout x; free = freeFrom-layout x }
+      λ x. record {
+        next = header-word 2 (omega arith) x;
+        tick = header-word 3 (omega arith) x;
+        slots = slotsAt-layout x;
+        free = freeFrom-layout x;
+      }

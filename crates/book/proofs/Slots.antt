@@ -87,14 +87,18 @@ slotsAt-at w i (suc k) (suc m) h = rw (add-suc i m, ← suc-add i m) (slotsAt-at
 
 -- record i of n
 pub slotsAt-record : (w : List ℕ) (n i : ℕ) → 1 ≤ i → i ≤ n → getD (slotsAt w 1 n) (i - 1) vacant ≡ slotAt w i
-slotsAt-record w n i low high = let e : 1 + (i - 1) ≡ i = omega arith in rw e at (slotsAt-at w 1 n (i - 1) (omega arith))
+slotsAt-record w n i low high = let e : 1 + (i - 1) ≡ i =
+    omega arith in rw e at (slotsAt-at w 1 n (i - 1) (omega arith))
 
-pub slotsAt-all : (P : Slot → Type 0) (w : List ℕ) (i k : ℕ) → ((j : ℕ) → i ≤ j → j < i + k → P (slotAt w j)) → All P (slotsAt w i k)
+pub slotsAt-all : (P : Slot → Type 0) (w : List ℕ) (i k : ℕ) → ((j : ℕ) → i ≤ j → j < i + k → P (slotAt w j))
+    → All P (slotsAt w i k)
 unfolding slotsAt
 slotsAt-all P w i zero h = tt
-slotsAt-all P w i (suc k) h = (h i (omega arith) (omega arith), slotsAt-all P w (suc i) k (λ j low high. h j (omega arith) (omega arith)))
+slotsAt-all P w i (suc k) h =
+    (h i (omega arith) (omega arith), slotsAt-all P w (suc i) k (λ j low high. h j (omega arith) (omega arith)))
 
-pub slotsAt-each : (P : Slot → Type 0) (w : List ℕ) (i k : ℕ) → All P (slotsAt w i k) → (j : ℕ) → i ≤ j → j < i + k → P (slotAt w j)
+pub slotsAt-each : (P : Slot → Type 0) (w : List ℕ) (i k : ℕ) → All P (slotsAt w i k) → (j : ℕ) → i ≤ j → j < i + k
+    → P (slotAt w j)
 unfolding slotsAt
 slotsAt-each P w i zero h j low high = absurd (omega arith)
 slotsAt-each P w i (suc k) h j low high = cases (ltb i j)
@@ -102,7 +106,8 @@ slotsAt-each P w i (suc k) h j low high = cases (ltb i j)
     (λ e. let q : j ≡ i = omega (arith, ltb-false i j e) in rw q (h .0))
 
 -- the numbers of a record that is read from words are words
-pub slotAt-fits : (w : List ℕ) (i : ℕ) → ((k : ℕ) → k < recordLength → recordWord w i k < 2 ^ 64) → SlotFits (slotAt w i)
+pub slotAt-fits : (w : List ℕ) (i : ℕ) → ((k : ℕ) → k < recordLength → recordWord w i k < 2 ^ 64)
+    → SlotFits (slotAt w i)
 unfolding slotAt entryAt
 slotAt-fits w i word = go (eqb (recordWord w i 7) 0)
   where

@@ -1,5 +1,6 @@
--- The sorting law: if each record gives up its stop early, late or never, and the early stops are before the late ones, then the sorted
--- whole is the sorted early stops and then the sorted late ones. It wants no other law of the order, so no sorted list and no distinct keys.
+-- The sorting law: if each record gives up its stop early, late or never, and the early stops are before the late ones,
+-- then the sorted whole is the sorted early stops and then the sorted late ones. It wants no other law of the order, so
+-- no sorted list and no distinct keys.
 use Prim.Native.Nat.{ℕ, suc}
 use mathlib.Core.Path.{_≡_, refl}
 use mathlib.Core.Bool.{true, false}
@@ -39,13 +40,16 @@ pub record Parted (Early Late : StopEntry → Type 0) (a b whole : List Pending)
   pub back : AllStops Late b
 
 module _ (c : Chain) (Early Late : StopEntry → Type 0) (w : Apart c Early Late) where
-  insert-front : (x : Pending) (a b : List Pending) → Early (x .entry) → AllStops Late b → insert c x (a ++ b) ≡ insert c x a ++ b
+  insert-front : (x : Pending) (a b : List Pending) → Early (x .entry) → AllStops Late b
+      → insert c x (a ++ b) ≡ insert c x a ++ b
   unfolding insertBy
   insert-front x [] [] h k = refl
   insert-front x [] (y ∷ b) h k = rw (w .first (x .entry) (y .entry) h (k .0))
-  insert-front x (y ∷ a) b h k = cases (before c (x .entry) (y .entry)) (λ e. rw e) (λ e. rw (e, insert-front x a b h k))
+  insert-front x (y ∷ a) b h k =
+      cases (before c (x .entry) (y .entry)) (λ e. rw e) (λ e. rw (e, insert-front x a b h k))
 
-  insert-back : (x : Pending) (a b : List Pending) → Late (x .entry) → AllStops Early a → insert c x (a ++ b) ≡ a ++ insert c x b
+  insert-back : (x : Pending) (a b : List Pending) → Late (x .entry) → AllStops Early a
+      → insert c x (a ++ b) ≡ a ++ insert c x b
   unfolding insertBy
   insert-back x [] b h k = refl
   insert-back x (y ∷ a) b h k = rw (w .second (y .entry) (x .entry) (k .0) h, insert-back x a b h (k .1))
@@ -89,7 +93,8 @@ abbrev pub Unmet : Side → Price → StopEntry → Type 0
 Unmet d p t = behind d (stopOf t) (p .0) ≡ true
 
 before-ByStop : (d : Side) (x y : StopEntry)
-    → before (ByStop d) x y ≡ lexicographic (behind d (stopOf y) (stopOf x)) (stopOf x) (stopOf y) (ltb (seqOf x) (seqOf y))
+    → before (ByStop d) x y ≡ lexicographic (behind d (stopOf y) (stopOf x)) (stopOf x) (stopOf y)
+    (ltb (seqOf x) (seqOf y))
 unfolding before behind
 before-ByStop Sell x y = refl
 before-ByStop Buy x y = refl
@@ -109,14 +114,16 @@ stops-apart d p = record {
       rw (before-ByStop d y x, behind-asym d (stopOf y) (stopOf x) h, behind-differs d (stopOf y) (stopOf x) h);
 }
 
-pub part-early : (d s : Side) (p : Price) (t : StopEntry) → Met s p t → Part (Met d p) (Unmet d p) (ofSide d s t) none (ofSide d s t)
+pub part-early : (d s : Side) (p : Price) (t : StopEntry) → Met s p t
+    → Part (Met d p) (Unmet d p) (ofSide d s t) none (ofSide d s t)
 unfolding ofSide
 part-early Sell Sell p t h = early t h
 part-early Sell Buy p t h = never
 part-early Buy Sell p t h = never
 part-early Buy Buy p t h = early t h
 
-pub part-late : (d s : Side) (p : Price) (t : StopEntry) → Unmet s p t → Part (Met d p) (Unmet d p) none (ofSide d s t) (ofSide d s t)
+pub part-late : (d s : Side) (p : Price) (t : StopEntry) → Unmet s p t
+    → Part (Met d p) (Unmet d p) none (ofSide d s t) (ofSide d s t)
 unfolding ofSide
 part-late Sell Sell p t h = late t h
 part-late Sell Buy p t h = never

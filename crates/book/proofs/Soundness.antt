@@ -55,4 +55,9 @@ unfolding soundStop
 sound-later m n tick vacant h e = refl
 sound-later m n tick (held t) h e =
     let s = sound-parts m tick t e in
-    sound-of n tick t (record { sequence = omega (arith, s .sequence); quantity = s .quantity; terms = s .terms; on-tick = s .on-tick })
+    sound-of n tick t (record {
+      sequence = omega (arith, s .sequence);
+      quantity = s .quantity;
+      terms = s .terms;
+      on-tick = s .on-tick;
+    })

@@ -1,4 +1,5 @@
--- One stop at two prices: trailing twice, at which prices it leaves, a stop that a point left in the book, and trails of at least 1.
+-- One stop at two prices: trailing twice, at which prices it leaves, a stop that a point left in the book, and trails
+-- of at least 1.
 use Prim.Native.Nat.{ℕ, _≤_}
 use mathlib.Core.Path.{_≡_, refl}
 use mathlib.Core.Bool.{Bool, true, false, not}
@@ -25,12 +26,14 @@ unfolding trailed
 trailed-still p t h = rw (trailedAt-still (t .terms) p h)
 
 -- side and trail stay
-pub trailed-keeps : (p : Price) (t : StopEntry) → (sideOf (trailed p t) ≡ sideOf t) × (trailed p t .terms .trail ≡ t .terms .trail)
+pub trailed-keeps : (p : Price) (t : StopEntry)
+    → (sideOf (trailed p t) ≡ sideOf t) × (trailed p t .terms .trail ≡ t .terms .trail)
 unfolding trailed trailedAt ratcheted
 trailed-keeps p t = cases (behind (sideOf t) (watermarkOf t) (p .0)) (λ e. rw e (refl, refl)) (λ e. rw e (refl, refl))
 
 -- a later price that is as far or further undoes what the price before it did
-trailedAt-again : (p q : Price) (t : StopTerms) → behind (t .side) (q .0) (p .0) ≡ false → trailedAt (trailedAt t p) q ≡ trailedAt t q
+trailedAt-again : (p q : Price) (t : StopTerms) → behind (t .side) (q .0) (p .0) ≡ false
+    → trailedAt (trailedAt t p) q ≡ trailedAt t q
 unfolding trailedAt ratcheted
 trailedAt-again p q t h = cases (behind (t .side) (t .watermark .0) (p .0))
     (λ e.
@@ -41,7 +44,8 @@ trailedAt-again p q t h = cases (behind (t .side) (t .watermark .0) (p .0))
     (λ f. let same : p .0 ≡ q .0 = past-antisym (t .side) (p .0) (q .0) f h in rw (e, f, g, same)))
     (λ e. rw e)
 
-pub trailed-again : (p q : Price) (t : StopEntry) → behind (sideOf t) (q .0) (p .0) ≡ false → trailed q (trailed p t) ≡ trailed q t
+pub trailed-again : (p q : Price) (t : StopEntry) → behind (sideOf t) (q .0) (p .0) ≡ false
+    → trailed q (trailed p t) ≡ trailed q t
 unfolding trailed
 trailed-again p q t h = rw (trailedAt-again p q (t .terms) h)
 
@@ -56,7 +60,8 @@ leaves-past p t = elects-past (sideOf t) (p .0) (stopOf t)
 pub stays-behind : (p : Price) (t : StopEntry) → leaves false p t ≡ false → behind (sideOf t) (stopOf t) (p .0) ≡ true
 stays-behind p t l = not-false _ (rw (leaves-past p t) at l)
 
-pub leaves-not-behind : (kill : Bool) (p : Price) (t : StopEntry) → leaves kill p t ≡ true → behind (sideOf t) (stopOf t) (p .0) ≡ false
+pub leaves-not-behind : (kill : Bool) (p : Price) (t : StopEntry) → leaves kill p t ≡ true
+    → behind (sideOf t) (stopOf t) (p .0) ≡ false
 unfolding leaves
 leaves-not-behind true p t l = cc
 leaves-not-behind false p t l = not-true _ (rw (leaves-past p t) at l)
@@ -69,7 +74,8 @@ waits-behind true p q t l m = cc
 waits-behind false p q t l m = stays-behind p t l
 
 -- a stop that leaves at p leaves at each price that comes further towards it
-pub leaves-further : (kill : Bool) (p q : Price) (t : StopEntry) → behind (sideOf t) (p .0) (q .0) ≡ false → leaves kill p t ≡ true
+pub leaves-further : (kill : Bool) (p q : Price) (t : StopEntry) → behind (sideOf t) (p .0) (q .0) ≡ false
+    → leaves kill p t ≡ true
     → leaves kill q t ≡ true
 unfolding leaves
 leaves-further true p q t h l = l
@@ -84,13 +90,20 @@ pub record Settled (kill : Bool) (p : Price) (t : StopEntry) : Type 0 where
   pub stays : leaves kill p t ≡ false
   pub trails : 1 ≤ t .terms .trail
 
-watermark-reached : (p : Price) (t : StopEntry) → behind (sideOf (trailed p t)) (watermarkOf (trailed p t)) (p .0) ≡ false
+watermark-reached : (p : Price) (t : StopEntry)
+    → behind (sideOf (trailed p t)) (watermarkOf (trailed p t)) (p .0) ≡ false
 unfolding trailed trailedAt ratcheted
-watermark-reached p t = cases (behind (sideOf t) (watermarkOf t) (p .0)) (λ e. rw e (behind-irrefl (sideOf t) (p .0))) (λ e. rw e e)
+watermark-reached p t =
+    cases (behind (sideOf t) (watermarkOf t) (p .0)) (λ e. rw e (behind-irrefl (sideOf t) (p .0))) (λ e. rw e e)
 
-pub trailed-settled : (kill : Bool) (p : Price) (t : StopEntry) → 1 ≤ t .terms .trail → leaves kill p (trailed p t) ≡ false
+pub trailed-settled : (kill : Bool) (p : Price) (t : StopEntry) → 1 ≤ t .terms .trail
+    → leaves kill p (trailed p t) ≡ false
     → Settled kill p (trailed p t)
-trailed-settled kill p t h l = record { reached = watermark-reached p t; stays = l; trails = rw (trailed-keeps p t .1) h }
+trailed-settled kill p t h l = record {
+  reached = watermark-reached p t;
+  stays = l;
+  trails = rw (trailed-keeps p t .1) h;
+}
 
 trailed-behind : (q : Price) (t : StopEntry) → 1 ≤ t .terms .trail → behind (sideOf t) (stopOf t) (q .0) ≡ true
     → behind (sideOf (trailed q t)) (stopOf (trailed q t)) (q .0) ≡ true
@@ -100,7 +113,8 @@ trailed-behind q t h k = cases (behind (sideOf t) (watermarkOf t) (q .0))
     (λ e. rw e k)
 
 -- a price that goes the way that a stop trails does not elect it
-pub trailed-stays : (kill : Bool) (p q : Price) (t : StopEntry) → behind (sideOf t) (q .0) (p .0) ≡ false → Settled kill p t
+pub trailed-stays : (kill : Bool) (p q : Price) (t : StopEntry) → behind (sideOf t) (q .0) (p .0) ≡ false
+    → Settled kill p t
     → leaves kill q (trailed q t) ≡ false
 unfolding leaves
 trailed-stays true p q t h w = refl

@@ -68,4 +68,5 @@ rising-at P i (suc m) h j low high = cases (ltb i j)
 pub rising-all : (P : ℕ → Type 0) (i m : ℕ) → ((j : ℕ) → i ≤ j → j < i + m → P j) → All P (rising i m)
 unfolding rising
 rising-all P i zero h = tt
-rising-all P i (suc m) h = (h i (omega arith) (omega arith), rising-all P (suc i) m (λ j low high. h j (omega arith) (omega arith)))
+rising-all P i (suc m) h =
+    (h i (omega arith) (omega arith), rising-all P (suc i) m (λ j low high. h j (omega arith) (omega arith)))

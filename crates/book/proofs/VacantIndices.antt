@@ -31,7 +31,8 @@ vacantIndices-below i j [] h = refl
 vacantIndices-below i j (vacant ∷ ss) h = rw (lt-ltb i j h)
 vacantIndices-below i j (held t ∷ ss) h = vacantIndices-below i (suc j) ss (omega arith)
 
-pub vacantIndices-first : (j : ℕ) (ss : List Slot) → insertRising j (vacantIndices (suc j) ss) ≡ j ∷ vacantIndices (suc j) ss
+pub vacantIndices-first : (j : ℕ) (ss : List Slot)
+    → insertRising j (vacantIndices (suc j) ss) ≡ j ∷ vacantIndices (suc j) ss
 vacantIndices-first j ss = vacantIndices-below j (suc j) ss (omega arith)
 
 pub vacantIndices-rising : (j : ℕ) (ss : List Slot) → sortRising (vacantIndices j ss) ≡ vacantIndices j ss
@@ -65,7 +66,8 @@ vacantIndices-vacated j (held s ∷ ss) zero t e = rw add-zero (vacantIndices-fi
 vacantIndices-vacated j (vacant ∷ ss) (suc k) t e =
     let h : j ≤ j + suc k = omega arith in
     rw (insertRising-later (j + suc k) j, add-suc j k, ← suc-add j k, vacantIndices-vacated (suc j) ss k t e)
-vacantIndices-vacated j (held s ∷ ss) (suc k) t e = rw (add-suc j k, ← suc-add j k) (vacantIndices-vacated (suc j) ss k t e)
+vacantIndices-vacated j (held s ∷ ss) (suc k) t e =
+    rw (add-suc j k, ← suc-add j k) (vacantIndices-vacated (suc j) ss k t e)
 
 -- the numbers before and after one is taken: a vacant record's, which is then held
 pub record Taken (x j : ℕ) (l : List ℕ) (ss : List Slot) (t : StopEntry) : Type 0 where
@@ -85,11 +87,19 @@ taken-later x j l m s ss t r e = record {
   others = e;
 }
 
-taken-here : (x j : ℕ) (l : List ℕ) (ss : List Slot) (t : StopEntry) → x ∷ l ≡ j ∷ vacantIndices (suc j) ss → Taken x j l (vacant ∷ ss) t
+taken-here : (x j : ℕ) (l : List ℕ) (ss : List Slot) (t : StopEntry) → x ∷ l ≡ j ∷ vacantIndices (suc j) ss
+    → Taken x j l (vacant ∷ ss) t
 unfolding vacantIndices
-taken-here x j l ss t e = record { place = 0; is = let q : x ≡ j = cc in omega arith; inside = omega arith; vacant-there = refl; others = cc }
+taken-here x j l ss t e = record {
+  place = 0;
+  is = let q : x ≡ j = cc in omega arith;
+  inside = omega arith;
+  vacant-there = refl;
+  others = cc;
+}
 
-pub vacantIndices-taken : (x j : ℕ) (l : List ℕ) (ss : List Slot) (t : StopEntry) → insertRising x l ≡ vacantIndices j ss → Taken x j l ss t
+pub vacantIndices-taken : (x j : ℕ) (l : List ℕ) (ss : List Slot) (t : StopEntry)
+    → insertRising x l ≡ vacantIndices j ss → Taken x j l ss t
 unfolding vacantIndices insertBy
 vacantIndices-taken x j l [] t e = absurd (omega (arith, insertBy-length ltb x l, ap length e))
 vacantIndices-taken x j [] (vacant ∷ ss) t e = taken-here x j [] ss t e

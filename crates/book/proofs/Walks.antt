@@ -1,5 +1,5 @@
--- Points at several prices, a walk and a segment keep a book valid and of words, keep its records, next sequence and tick, and lose as
--- many stops as they elect.
+-- Points at several prices, a walk and a segment keep a book valid and of words, keep its records, next sequence and
+-- tick, and lose as many stops as they elect.
 use Prim.Native.Nat.{ℕ, _≤_, _<_, _+_, _*_, _^_}
 use mathlib.Core.Path.{_≡_, refl, _∙_}
 use mathlib.Core.Bool.{Bool, true, cond}
@@ -38,18 +38,21 @@ PriceFits p = p .0 < 2 ^ 64
 ------------------------------------------------------------------------
 -- A point
 
-pub point-valid : (kill sellsFirst : Bool) (price : Price) (b : Book) → Valid b → Valid (point kill sellsFirst price b .book)
+pub point-valid : (kill sellsFirst : Bool) (price : Price) (b : Book) → Valid b
+    → Valid (point kill sellsFirst price b .book)
 unfolding point
 point-valid kill sellsFirst price b h = record {
   some-records = rw (point-records kill sellsFirst price b) (h .some-records);
   few-records = rw (point-records kill sellsFirst price b) (h .few-records);
-  sound = all-mapped (λ s. soundStop (b .next) (b .tick) s ≡ true) (λ s. soundStop (b .next) (b .tick) s ≡ true) (settled kill price)
+  sound = all-mapped (λ s. soundStop (b .next) (b .tick) s ≡ true) (λ s. soundStop (b .next) (b .tick) s ≡ true)
+      (settled kill price)
       (settled-sound (b .next) (b .tick) kill price) (b .slots) (h .sound);
   differ = settled-allDiffer kill price (b .slots) (h .differ);
   free-vacant = point-free-vacant kill sellsFirst price b (h .free-vacant);
 }
 
-pub point-fits : (kill sellsFirst : Bool) (price : Price) (b : Book) → PriceFits price → Fits b → Fits (point kill sellsFirst price b .book)
+pub point-fits : (kill sellsFirst : Bool) (price : Price) (b : Book) → PriceFits price → Fits b
+    → Fits (point kill sellsFirst price b .book)
 unfolding point
 point-fits kill sellsFirst price b p h = record {
   next = h .next;
@@ -59,7 +62,11 @@ point-fits kill sellsFirst price b p h = record {
 
 pub point-kept : (kill sellsFirst : Bool) (price : Price) (b : Book) → Kept b (point kill sellsFirst price b .book)
 unfolding point
-point-kept kill sellsFirst price b = record { records = point-records kill sellsFirst price b; next = refl; tick = refl }
+point-kept kill sellsFirst price b = record {
+  records = point-records kill sellsFirst price b;
+  next = refl;
+  tick = refl;
+}
 
 ------------------------------------------------------------------------
 -- Points at several prices, one after the other
@@ -67,14 +74,17 @@ point-kept kill sellsFirst price b = record { records = point-records kill sells
 -- what points at the prices ps, in turn, make of the book b, whichever side goes first at each
 pub data PointsAt (kill : Bool) : List Price → Book → Evaluated → Type 0 where
   done : {b : Book} → PointsAt kill [] b (record { book = b; fills = []; moved = [] })
-  next : {ps : List Price} {b : Book} {rest : Evaluated} (first : Bool) (p : Price) → PointsAt kill ps (point kill first p b .book) rest
+  next : {ps : List Price} {b : Book} {rest : Evaluated} (first : Bool) (p : Price)
+      → PointsAt kill ps (point kill first p b .book) rest
       → PointsAt kill (p ∷ ps) b (andThen (point kill first p b) rest)
 
-pub walkFrom-points : (kill falls : Bool) (from : LastPrice) (ps : List Price) (b : Book) → PointsAt kill ps b (walkFrom kill falls from ps b)
+pub walkFrom-points : (kill falls : Bool) (from : LastPrice) (ps : List Price) (b : Book)
+    → PointsAt kill ps b (walkFrom kill falls from ps b)
 unfolding walkFrom
 walkFrom-points kill falls from [] b = done
 walkFrom-points kill falls from (p ∷ ps) b =
-    next (sellsFirst falls from p) p (walkFrom-points kill falls (last.At p) ps (point kill (sellsFirst falls from p) p b .book))
+    next (sellsFirst falls from p) p
+    (walkFrom-points kill falls (last.At p) ps (point kill (sellsFirst falls from p) p b .book))
 
 -- the prices of a segment
 abbrev pub segmentPrices : PrintSegment → List Price
@@ -84,7 +94,8 @@ pub segment-points : (kill : Bool) (s : PrintSegment) (b : Book) → PointsAt ki
 unfolding segment
 segment-points kill s b = walkFrom-points kill (fallsTo (s .first) (s .last)) (s .prev) (segmentPrices s) b
 
-pub walk-points : (kill : Bool) (prev : LastPrice) (ps : List Price) (b : Book) → PointsAt kill ps b (walk kill prev ps b)
+pub walk-points : (kill : Bool) (prev : LastPrice) (ps : List Price) (b : Book)
+    → PointsAt kill ps b (walk kill prev ps b)
 unfolding walk
 walk-points kill prev [] b = walkFrom-points kill true prev [] b
 walk-points kill prev (p ∷ ps) b = walkFrom-points kill (fallsTo p (lastOf p ps)) prev (p ∷ ps) b
@@ -95,7 +106,8 @@ module _ (kill : Bool) where
   points-valid done h = h
   points-valid {b = b} (next first p r) h = points-valid r (point-valid kill first p b h)
 
-  pub points-fits : {ps : List Price} {b : Book} {o : Evaluated} → PointsAt kill ps b o → All PriceFits ps → Fits b → Fits (o .book)
+  pub points-fits : {ps : List Price} {b : Book} {o : Evaluated} → PointsAt kill ps b o → All PriceFits ps → Fits b
+      → Fits (o .book)
   unfolding andThen
   points-fits done k h = h
   points-fits {b = b} (next first p r) k h = points-fits r (k .1) (point-fits kill first p b (k .0) h)
@@ -103,7 +115,8 @@ module _ (kill : Bool) where
   pub points-kept : {ps : List Price} {b : Book} {o : Evaluated} → PointsAt kill ps b o → Kept b (o .book)
   unfolding andThen
   points-kept done = record { records = refl; next = refl; tick = refl }
-  points-kept {b = b} (next first p r) = kept-trans b (point kill first p b .book) _ (point-kept kill first p b) (points-kept r)
+  points-kept {b = b} (next first p r) =
+      kept-trans b (point kill first p b .book) _ (point-kept kill first p b) (points-kept r)
 
   pub points-count : {ps : List Price} {b : Book} {o : Evaluated} → PointsAt kill ps b o
       → pendingCount (b .slots) ≡ pendingCount (o .book .slots) + length (o .fills)
@@ -112,7 +125,8 @@ module _ (kill : Bool) where
   points-count {b = b} (next first p r) = rw length-append (omega (arith, points-count r, point-count kill first p b))
 
   -- each point moves a stop at most once
-  points-moves-below : {ps : List Price} {b : Book} {o : Evaluated} (most : ℕ) → PointsAt kill ps b o → pendingCount (b .slots) ≤ most
+  points-moves-below : {ps : List Price} {b : Book} {o : Evaluated} (most : ℕ) → PointsAt kill ps b o
+      → pendingCount (b .slots) ≤ most
       → length (o .moved) ≤ length ps * most
   unfolding andThen
   points-moves-below most done h = omega arith
@@ -120,7 +134,8 @@ module _ (kill : Bool) where
       let ih = points-moves-below most r (omega (arith, point-count kill first p b)) in
       rw (length-append, suc-mul) (omega (arith, ih, point-moves kill first p b))
 
-  pub points-moves : {ps : List Price} {b : Book} {o : Evaluated} → PointsAt kill ps b o → length (o .moved) ≤ length ps * pendingCount (b .slots)
+  pub points-moves : {ps : List Price} {b : Book} {o : Evaluated} → PointsAt kill ps b o
+      → length (o .moved) ≤ length ps * pendingCount (b .slots)
   points-moves {b = b} r = points-moves-below (pendingCount (b .slots)) r (omega arith)
 
 ------------------------------------------------------------------------
@@ -132,9 +147,11 @@ pub record SegmentFits (s : PrintSegment) : Type 0 where
   pub last : PriceFits (s .last)
 
 pub segmentPrices-fits : (s : PrintSegment) → SegmentFits s → All PriceFits (segmentPrices s)
-segmentPrices-fits s h = cases (eqb (s .first .0) (s .last .0)) (λ e. rw e (h .first, tt)) (λ e. rw e (h .first, (h .last, tt)))
+segmentPrices-fits s h =
+    cases (eqb (s .first .0) (s .last .0)) (λ e. rw e (h .first, tt)) (λ e. rw e (h .first, (h .last, tt)))
 
-pub segment-moves : (kill : Bool) (s : PrintSegment) (b : Book) → length (segment kill s b .moved) ≤ 2 * pendingCount (b .slots)
+pub segment-moves : (kill : Bool) (s : PrintSegment) (b : Book)
+    → length (segment kill s b .moved) ≤ 2 * pendingCount (b .slots)
 segment-moves kill s b =
     let h = points-moves kill (segment-points kill s b) in
     cases (eqb (s .first .0) (s .last .0)) (λ e. omega (arith, rw e at h)) (λ e. omega (arith, rw e at h))

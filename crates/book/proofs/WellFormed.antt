@@ -1,4 +1,5 @@
--- Well-formed words are the layout of a valid book whose numbers are words, with any words behind it, and so is each such layout.
+-- Well-formed words are the layout of a valid book whose numbers are words, with any words behind it, and so is each
+-- such layout.
 use Rattle.book.proofs.Slots.{slotsAt-all, kindNumber-most, slotAt-fits, sideNumber-most}
 use Prim.Native.Nat.{ℕ, zero, suc, _+_, _-_, _*_, _≤_, _<_, _^_}
 use mathlib.Core.Path.{_≡_, sym}
@@ -41,7 +42,8 @@ areWords-all l e = all-map {Q = IsWord} (λ x h. ltb-true x (2 ^ 64) h) l (every
 
 all-areWords : (l : List ℕ) → All IsWord l → areWords l ≡ true
 unfolding areWords
-all-areWords l h = all-every (λ x. ltb x (2 ^ 64)) l (all-map {P = IsWord} {Q = λ x. ltb x (2 ^ 64) ≡ true} (λ x p. lt-ltb x (2 ^ 64) p) l h)
+all-areWords l h = all-every (λ x. ltb x (2 ^ 64)) l
+    (all-map {P = IsWord} {Q = λ x. ltb x (2 ^ 64) ≡ true} (λ x p. lt-ltb x (2 ^ 64) p) l h)
 
 ------------------------------------------------------------------------
 -- The parts of the test
@@ -89,7 +91,8 @@ module _ (w : List ℕ) (e : wellFormed w ≡ true) where
 
   wellFormed-word : (p : ℕ) → p < storeLength (getD w 0 0) → IsWord (getD w p 0)
   wellFormed-word p h =
-      rw getD-take at (all-getD IsWord (take (storeLength (getD w 0 0)) w) p 0 (omega arith) (wellFormed-parts w e .are-words))
+      rw getD-take at (all-getD IsWord (take (storeLength (getD w 0 0)) w) p 0 (omega arith)
+      (wellFormed-parts w e .are-words))
 
   recordWord-fits : (i k : ℕ) → 1 ≤ i → i ≤ getD w 0 0 → k < recordLength → IsWord (recordWord w i k)
   unfolding recordWord cell
@@ -100,7 +103,8 @@ module _ (w : List ℕ) (e : wellFormed w ≡ true) where
   wellFormed-fits = record {
     next = wellFormed-word 2 (omega arith);
     tick = wellFormed-word 3 (omega arith);
-    slots = slotsAt-all SlotFits w 1 (getD w 0 0) (λ j low high. slotAt-fits w j (λ k h. recordWord-fits j k low (omega arith) h));
+    slots = slotsAt-all SlotFits w 1 (getD w 0 0)
+        (λ j low high. slotAt-fits w j (λ k h. recordWord-fits j k low (omega arith) h));
   }
 
 pub bookOf-slots-length : (w : List ℕ) → length (bookOf w .slots) ≡ getD w 0 0
@@ -116,7 +120,8 @@ module _ (b : Book) (v : Valid b) (f : Fits b) where
 
   chain-words : (c : Chain) → All IsWord (chainIndices c b)
   chain-words c =
-      all-map {P = λ i. i ≤ length (b .slots)} {Q = IsWord} (λ i h. omega arith) (chainIndices c b) (chainIndices-range c b)
+      all-map {P = λ i. i ≤ length (b .slots)} {Q = IsWord} (λ i h. omega arith) (chainIndices c b)
+      (chainIndices-range c b)
 
   head-word : (c : Chain) → IsWord (headOr0 (chainIndices c b))
   head-word c = headOr0-all IsWord (chainIndices c b) (omega arith) (chain-words c)
@@ -141,22 +146,31 @@ module _ (b : Book) (v : Valid b) (f : Fits b) where
   unfolding recordWords dataWords afterByStop afterByWatermark withLinks
   recordWords-words i vacant h = omega (arith, nextIn-all IsWord (b .free) i (omega arith) free-words)
   recordWords-words i (held t) h =
-      omega (arith, kindNumber-most (t .id .kind), sideNumber-most (sideOf t), link-word (ByStop (sideOf t)) i, link-word (ByWatermark (sideOf t)) i)
+      omega (
+        arith,
+        kindNumber-most (t .id .kind),
+        sideNumber-most (sideOf t),
+        link-word (ByStop (sideOf t)) i,
+        link-word (ByWatermark (sideOf t)) i,
+      )
 
   recordsWords-words : (i : ℕ) (ss : List Slot) → All SlotFits ss → All IsWord (recordsWords b i ss)
   unfolding recordsWords
   recordsWords-words i [] h = tt
   recordsWords-words i (s ∷ ss) h =
-      all-append IsWord (recordWords b i s) (recordsWords b (suc i) ss) (recordWords-words i s (h .0)) (recordsWords-words (suc i) ss (h .1))
+      all-append IsWord (recordWords b i s) (recordsWords b (suc i) ss) (recordWords-words i s (h .0))
+      (recordsWords-words (suc i) ss (h .1))
 
   layout-words : All IsWord (layout b)
   unfolding layout
-  layout-words = all-append IsWord (header b) (recordsWords b 1 (b .slots)) header-words (recordsWords-words 1 (b .slots) (f .slots))
+  layout-words = all-append IsWord (header b)
+      (recordsWords b 1 (b .slots)) header-words (recordsWords-words 1 (b .slots) (f .slots))
 
 -- whatever stands behind it
 pub layout-wellFormed : (b : Book) (r : List ℕ) → Valid b → Fits b → wellFormed (layout b ++ r) ≡ true
 layout-wellFormed b r v f =
-    let front : take (storeLength (length (b .slots))) (layout b ++ r) ≡ layout b = take-at (layout b) r _ (layout-length b) in
+    let front : take (storeLength (length (b .slots))) (layout b ++ r) ≡ layout b =
+    take-at (layout b) r _ (layout-length b) in
     wellFormed-of (layout b ++ r) (record {
       room = rw (layout-count b r, length-append) (omega (arith, layout-length b));
       are-words = rw (layout-count b r, front) (layout-words b v f);
@@ -174,7 +188,8 @@ pub record Stored (n : ℕ) (b : Book) (w after : List ℕ) : Type 0 where
   pub size : length after ≡ length w
   pub beyond : drop (storeLength n) after ≡ drop (storeLength n) w
 
-pub stored-wellFormed : (n : ℕ) (b : Book) (w : List ℕ) → storeLength n ≤ length w → Valid b → Fits b → length (b .slots) ≡ n
+pub stored-wellFormed : (n : ℕ) (b : Book) (w : List ℕ) → storeLength n ≤ length w → Valid b → Fits b
+    → length (b .slots) ≡ n
     → Stored n b w (stored n b w)
 unfolding stored
 stored-wellFormed n b w h v f e =
@@ -186,7 +201,8 @@ stored-wellFormed n b w h v f e =
       beyond = drop-at (layout b) (drop (storeLength n) w) (storeLength n) l;
     }
 
-pub storedBook-wellFormed : (b : Book) (w : List ℕ) → wellFormed w ≡ true → Valid b → Fits b → length (b .slots) ≡ getD w 0 0
+pub storedBook-wellFormed : (b : Book) (w : List ℕ) → wellFormed w ≡ true → Valid b → Fits b
+    → length (b .slots) ≡ getD w 0 0
     → Stored (getD w 0 0) b w (storedBook b w)
 unfolding storedBook
 storedBook-wellFormed b w e v f n = stored-wellFormed (getD w 0 0) b w (wellFormed-parts w e .room) v f n

@@ -43,13 +43,15 @@ seqOf t = t .seq .0
 unfoldable pub lexicographic : Bool → ℕ → ℕ → Bool → Bool
 lexicographic earlier x y tie = earlier || (eqb x y && tie)
 
--- order of chains: sell stop descending, ties sequence ascending; buy stop ascending, ties ascending; sell watermark ascending, ties
--- ascending; buy watermark descending, ties sequence descending
+-- order of chains: sell stop descending, ties sequence ascending; buy stop ascending, ties ascending; sell watermark
+-- ascending, ties ascending; buy watermark descending, ties sequence descending
 unfoldable pub before : Chain → StopEntry → StopEntry → Bool
 before (ByStop Sell) x y = lexicographic (ltb (stopOf y) (stopOf x)) (stopOf x) (stopOf y) (ltb (seqOf x) (seqOf y))
 before (ByStop Buy) x y = lexicographic (ltb (stopOf x) (stopOf y)) (stopOf x) (stopOf y) (ltb (seqOf x) (seqOf y))
-before (ByWatermark Sell) x y = lexicographic (ltb (watermarkOf x) (watermarkOf y)) (watermarkOf x) (watermarkOf y) (ltb (seqOf x) (seqOf y))
-before (ByWatermark Buy) x y = lexicographic (ltb (watermarkOf y) (watermarkOf x)) (watermarkOf x) (watermarkOf y) (ltb (seqOf y) (seqOf x))
+before (ByWatermark Sell) x y =
+    lexicographic (ltb (watermarkOf x) (watermarkOf y)) (watermarkOf x) (watermarkOf y) (ltb (seqOf x) (seqOf y))
+before (ByWatermark Buy) x y =
+    lexicographic (ltb (watermarkOf y) (watermarkOf x)) (watermarkOf x) (watermarkOf y) (ltb (seqOf y) (seqOf x))
 
 -- a pending stop with the index of its record
 pub record Pending : Type 0 where

@@ -1,5 +1,6 @@
--- The calls that evaluate: segment, walk, pass and the run over path and store. An outcome has the entries that the call lists; of a lent
--- list the call asks its length alone. Document 01, The questions a call goes through; One point, one segment, one pass.
+-- The calls that evaluate: segment, walk, pass and the run over path and store. An outcome has the entries that the
+-- call lists; of a lent list the call asks its length alone. Document 01, The questions a call goes through; One point,
+-- one segment, one pass.
 use Prim.Native.Nat.{ℕ, zero, suc, _+_, _*_}
 use mathlib.Core.Bool.{Bool, true, false, not, cond, _&&_, _||_}
 use mathlib.Core.List.{List, [], _∷_, _++_, map}
@@ -27,8 +28,8 @@ pub use Rattle.book.specs.declared.Counts.{Counts}
 pub use Rattle.book.specs.declared.PassCounts.{PassCounts}
 pub use Rattle.book.specs.declared.Settings.{Settings}
 
--- an elected entry: the stop as it left, the trigger price, the limit, the child identity, and whether that is pending in the book after
--- the segment, in a walk after its last price
+-- an elected entry: the stop as it left, the trigger price, the limit, the child identity, and whether that is pending
+-- in the book after the segment, in a walk after its last price
 unfoldable pub electedEntry : Settings → Book → Fill → Elected
 electedEntry s b f =
     let t = f .stop in
@@ -48,7 +49,8 @@ electedEntry s b f =
 unfoldable pub electedEntries : Settings → Evaluated → List Elected
 electedEntries s o = map (electedEntry s (o .book)) (o .fills)
 
--- what a lent list is after a call that lists entries: written from its start; later entries stay, and all of them where none is listed
+-- what a lent list is after a call that lists entries: written from its start; later entries stay, and all of them
+-- where none is listed
 unfoldable pub written : {A : Type 0} → List A → List A → List A
 written entries lent = entries ++ drop (length entries) lent
 
@@ -79,7 +81,12 @@ segmentCall s prints w elected moved =
     let o : Evaluated = segment (s .kill) prints (bookOf w) in
     decide (firstNo (segmentQuestions w elected moved))
     (λ k. record { answer = refused k; words = w; elected = []; moved = [] })
-    (record { answer = accepted (countsOf o); words = storedBook (o .book) w; elected = electedEntries s o; moved = o .moved })
+    (record {
+      answer = accepted (countsOf o);
+      words = storedBook (o .book) w;
+      elected = electedEntries s o;
+      moved = o .moved;
+    })
 
 ------------------------------------------------------------------------
 -- Walk
@@ -118,7 +125,8 @@ pub record Passed : Type 0 where
   pub moves : ℕ
   pub used : ℕ
 
--- a segment of a pass: what it does, what its elected execute in turn, and the part of the script that starts after the used entries
+-- a segment of a pass: what it does, what its elected execute in turn, and the part of the script that starts after the
+-- used entries
 abbrev pub evaluatedIn : Settings → PrintSegment → Book → Evaluated
 evaluatedIn s prints b = segment (s .kill) prints b
 
@@ -140,14 +148,15 @@ withSegment s script prints b rest = record {
   used = executedIn s script prints b .used + rest .used;
 }
 
--- takes segments from the queue until it or the store is empty. Each segment but the first stems from an elected stop, so that one more than
--- the count are enough
+-- takes segments from the queue until it or the store is empty. Each segment but the first stems from an elected stop,
+-- so that one more than the count are enough
 unfoldable pub passFrom : ℕ → Settings → List ℕ → List PrintSegment → Book → Passed
 passFrom zero s script queue b = ended b
 passFrom (suc k) s script [] b = ended b
 passFrom (suc k) s script (prints ∷ queue) b =
     let rest : Passed =
-    passFrom k s (scriptAfter s script prints b) (queue ++ executedIn s script prints b .segments) (evaluatedIn s prints b .book) in
+    passFrom k s (scriptAfter s script prints b) (queue ++ executedIn s script prints b .segments)
+    (evaluatedIn s prints b .book) in
     elim (pendingCount (b .slots)) [ zero ↦ ended b | suc n ↦ withSegment s script prints b rest ]
 
 unfoldable pub pass : Settings → List ℕ → PrintSegment → Book → Passed

@@ -1,5 +1,5 @@
--- The five chains of a store: the header word that starts each, the word of a record that links it, and the records that it holds.
--- Document 01, The store.
+-- The five chains of a store: the header word that starts each, the word of a record that links it, and the records
+-- that it holds. Document 01, The store.
 use Prim.Native.Nat.{ℕ, _-_, _≤_}
 use mathlib.Core.Path.{_≡_}
 use mathlib.Core.List.{List}

@@ -86,7 +86,8 @@ pub record Evaluated : Type 0 where
   pub fills : List Fill
   pub moved : List Moved
 
--- a point at a price: trail the sells, then the buys; then, unless the kill switch is on, take out the elected, one side first
+-- a point at a price: trail the sells, then the buys; then, unless the kill switch is on, take out the elected, one
+-- side first
 unfoldable pub point : Bool → Bool → Price → Book → Evaluated
 point kill sellsFirst price b = record {
   book = record {
@@ -99,7 +100,8 @@ point kill sellsFirst price b = record {
   moved = movedBy price b;
 }
 
--- sells come first if price < arrived-from; if that is absent or equals the price, exactly when the segment's last ≤ its first
+-- sells come first if price < arrived-from; if that is absent or equals the price, exactly when the segment's last ≤
+-- its first
 unfoldable pub sellsFirst : Bool → LastPrice → Price → Bool
 sellsFirst falls last.None price = falls
 sellsFirst falls (last.At from) price = cond (eqb (from .0) (price .0)) falls (ltb (price .0) (from .0))
@@ -115,7 +117,8 @@ andThen o r = record { book = r .book; fills = o .fills ++ r .fills; moved = o .
 unfoldable pub walkFrom : Bool → Bool → LastPrice → List Price → Book → Evaluated
 walkFrom kill falls from [] b = record { book = b; fills = []; moved = [] }
 walkFrom kill falls from (p ∷ ps) b =
-    andThen (point kill (sellsFirst falls from p) p b) (walkFrom kill falls (last.At p) ps (point kill (sellsFirst falls from p) p b .book))
+    andThen (point kill (sellsFirst falls from p) p b)
+    (walkFrom kill falls (last.At p) ps (point kill (sellsFirst falls from p) p b .book))
 
 -- a segment: a point at first arrived from prev, and, if last differs, one at last arrived from first
 unfoldable pub segment : Bool → PrintSegment → Book → Evaluated

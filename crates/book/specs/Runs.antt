@@ -48,8 +48,9 @@ likeness e = record {
   pending = e .pending;
 }
 
--- Demand 3, of the segment over a run's ends and the walk over the run: neither is refused; both answer the same number elected, and list
--- that many; their elected entries are alike, entry by entry; and the two stores are equal in every word
+-- Demand 3, of the segment over a run's ends and the walk over the run: neither is refused; both answer the same number
+-- elected, and list that many; their elected entries are alike, entry by entry; and the two stores are equal in every
+-- word
 pub record DecidedByEnds (ends : SegmentOutcome) (run : WalkOutcome) : Type 0 where
   pub elected : ℕ
   pub moves : ℕ

@@ -1,5 +1,5 @@
--- A pass over a queue of segments, with the script that stands for the matching of its children: document 01, One point, one segment,
--- one pass.
+-- A pass over a queue of segments, with the script that stands for the matching of its children: document 01, One
+-- point, one segment, one pass.
 use Prim.Native.Nat.{ℕ, _+_, _*_}
 use mathlib.Core.Bool.{Bool, true, false, cond, not, _&&_, _||_}
 use mathlib.Core.List.{List, [], _∷_, _++_, map}
@@ -33,14 +33,19 @@ scriptPrev script = cond (eqb (getD script 1 0) 1) (last.At (record { 0 = getD s
 unfoldable pub scriptSegment : List ℕ → List PrintSegment
 scriptSegment script =
     cond (eqb (getD script 0 0) 1)
-    (record { prev = scriptPrev script; first = record { 0 = getD script 3 0 }; last = record { 0 = getD script 4 0 } } ∷ []) []
+    (record {
+      prev = scriptPrev script;
+      first = record { 0 = getD script 3 0 };
+      last = record { 0 = getD script 4 0 };
+    } ∷ []) []
 
 -- what the elected of a segment execute: the segments that they add, and the entries that they use
 pub record Executed : Type 0 where
   pub segments : List PrintSegment
   pub used : ℕ
 
--- each elected stop whose child identity is free uses the next entry; a missing entry means nothing printed and is not counted
+-- each elected stop whose child identity is free uses the next entry; a missing entry means nothing printed and is not
+-- counted
 unfoldable pub executeOne : List ℕ → Elected → Executed
 executeOne script e =
     cond (e .pending || eqb (length script) 0) (record { segments = []; used = 0 })

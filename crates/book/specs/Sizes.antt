@@ -1,4 +1,5 @@
--- The sizes of a store, of its records and of the entries of lists, in words: document 01, The store; One point, one segment, one pass.
+-- The sizes of a store, of its records and of the entries of lists, in words: document 01, The store; One point, one
+-- segment, one pass.
 use Prim.Native.Nat.{ℕ, _+_, _*_, _<_}
 use mathlib.Core.Logic.{_≢_}
 

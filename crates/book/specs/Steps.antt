@@ -1,5 +1,5 @@
--- The steps that a point consists of: the stops of one side trail, or the elected of one side leave. Document 01, One point, one segment,
--- one pass.
+-- The steps that a point consists of: the stops of one side trail, or the elected of one side leave. Document 01, One
+-- point, one segment, one pass.
 use mathlib.Core.Bool.{Bool, true, false, cond}
 use mathlib.Core.List.{List, map, _++_}
 use mathlib.Core.Option.{Option, none, some}
@@ -25,7 +25,12 @@ trailedSlot side price vacant = vacant
 trailedSlot side price (held t) = held (cond (isSide side (sideOf t)) (trailed price t) t)
 
 unfoldable pub trailedOn : Side → Price → Book → Book
-trailedOn side price b = record { next = b .next; tick = b .tick; slots = map (trailedSlot side price) (b .slots); free = b .free }
+trailedOn side price b = record {
+  next = b .next;
+  tick = b .tick;
+  slots = map (trailedSlot side price) (b .slots);
+  free = b .free;
+}
 
 ------------------------------------------------------------------------
 -- The elected of a side leave

@@ -1,5 +1,5 @@
--- The calls on the store: layout, clear, find, admission, changes, cancel and totals. Document 01, The store; Admission, change, cancel;
--- The questions a call goes through.
+-- The calls on the store: layout, clear, find, admission, changes, cancel and totals. Document 01, The store;
+-- Admission, change, cancel; The questions a call goes through.
 use Prim.Native.Nat.{ℕ, zero, suc, _+_, _-_, _*_, _/_, _%_, _^_}
 use mathlib.Core.Bool.{Bool, true, false, not, cond, _&&_, _||_}
 use mathlib.Core.List.{List, [], _∷_, _++_}
@@ -230,7 +230,10 @@ unfoldable pub changeFound : OrderUpdate → LastPrice → Pending → List ℕ 
 changeFound update trade p w =
     decide (firstNo (changeQuestions update trade (p .entry) (bookOf w)))
     (λ k. record { answer = refused k; words = w })
-    (record { answer = accepted (changedEntry update (p .entry) (bookOf w)); words = storedBook (changed update p (bookOf w)) w })
+    (record {
+      answer = accepted (changedEntry update (p .entry) (bookOf w));
+      words = storedBook (changed update p (bookOf w)) w;
+    })
 
 unfoldable pub updateFound : OrderUpdate → LastPrice → Option Pending → List ℕ → StoreOutcome StopEntry
 updateFound update trade none w = record { answer = refused 12; words = w }

@@ -38,12 +38,13 @@ header b =
     ∷ headOr0 (chainIndices (ByStop Buy) b) ∷ headOr0 (chainIndices (ByWatermark Buy) b)
     ∷ headOr0 (b .free) ∷ []
 
--- the words of a record that are no link: kind, identity high, identity low, side, stop, watermark, trail, quantity, sequence; those of a
--- free one are zero
+-- the words of a record that are no link: kind, identity high, identity low, side, stop, watermark, trail, quantity,
+-- sequence; those of a free one are zero
 unfoldable pub dataWords : Slot → List ℕ
 dataWords vacant = replicate dataLength 0
 dataWords (held t) =
-    kindNumber (t .id .kind) ∷ t .id .high ∷ t .id .low ∷ sideNumber (sideOf t) ∷ stopOf t ∷ watermarkOf t ∷ t .terms .trail
+    kindNumber (t .id .kind) ∷ t .id .high ∷ t .id .low ∷ sideNumber (sideOf t) ∷ stopOf t ∷ watermarkOf t
+    ∷ t .terms .trail
     ∷ t .quantity .0 ∷ seqOf t ∷ []
 
 -- the two links: the free chain goes through next by stop
@@ -136,7 +137,8 @@ consistent t = isNone (inconsistencyNumber (inconsistencyOf t))
 -- sequence below word 2; quantity and trail at least 1; no inconsistency; trail a multiple of a non-zero tick
 unfoldable pub soundStop : ℕ → ℕ → Slot → Bool
 soundStop next tick vacant = true
-soundStop next tick (held t) = ltb (seqOf t) next && (leb 1 (t .quantity .0) && (consistent (t .terms) && onTick tick (t .terms .trail)))
+soundStop next tick (held t) =
+    ltb (seqOf t) next && (leb 1 (t .quantity .0) && (consistent (t .terms) && onTick tick (t .terms .trail)))
 
 -- identities differ, sequences differ
 unfoldable pub differs : StopEntry → Slot → Bool
@@ -167,8 +169,8 @@ valid b =
 unfoldable pub areWords : List ℕ → Bool
 areWords l = every (λ x. ltb x (2 ^ 64)) l
 
--- n in range and its words there; the words are those of a book that is valid: chains, heads, links and count are right, and the words
--- of free records zero
+-- n in range and its words there; the words are those of a book that is valid: chains, heads, links and count are
+-- right, and the words of free records zero
 unfoldable pub wellFormed : List ℕ → Bool
 wellFormed w =
     leb (storeLength (getD w 0 0)) (length w)

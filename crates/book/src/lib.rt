@@ -1,5 +1,5 @@
-// The book of pending stops: the types that its calls lend, take and answer, from orderbook-rs's stop_orders.rs. What the calls
-// mean stands in specs/, and what holds of them in proofs/; no code runs here.
+// The book of pending stops: the types that its calls lend, take and answer, from orderbook-rs's stop_orders.rs. What
+// the calls mean stands in specs/, and what holds of them in proofs/; no code runs here.
 use error::Refusal;
 use pricelevel::Id;
 use pricelevel::Price;
@@ -11,8 +11,8 @@ use stop_protection::Protection;
 use stop_terms::StopTerms;
 use uuid::Uuid;
 
-// The words of a store: those of its header and of each record, and the most records. A record's links stand at two of its words; the
-// others are data.
+// The words of a store: those of its header and of each record, and the most records. A record's links stand at two of
+// its words; the others are data.
 pub const HEADER_WORDS: usize = 9;
 
 pub const RECORD_WORDS: usize = 11;
@@ -49,7 +49,8 @@ pub struct StopEntry {
     pub seq: Seq,
 }
 
-// The four chains of a store: a side's stops by stop price, in the order of election, and by watermark, in the order of trailing.
+// The four chains of a store: a side's stops by stop price, in the order of election, and by watermark, in the order of
+// trailing.
 pub enum Chain {
     ByStop(Side),
     ByWatermark(Side),
@@ -82,8 +83,8 @@ pub struct PrintSegment {
     pub last: Price,
 }
 
-// The recorder of the current sweep's first print: whether one was recorded and not taken yet, whether a price came before
-// it, that price, and the print.
+// The recorder of the current sweep's first print: whether one was recorded and not taken yet, whether a price came
+// before it, that price, and the print.
 pub struct PrintPath {
     pub open: bool,
     pub has_prev: bool,
@@ -91,8 +92,8 @@ pub struct PrintPath {
     pub first: Price,
 }
 
-// A stop that a print elected: as it was when it left the book, the print, the limit and the identity of its child order, and
-// whether that identity is pending in the book after the evaluation.
+// A stop that a print elected: as it was when it left the book, the print, the limit and the identity of its child
+// order, and whether that identity is pending in the book after the evaluation.
 pub struct Elected {
     pub id: Id,
     pub side: Side,
@@ -111,8 +112,8 @@ pub struct Moved {
     pub stop: Price,
 }
 
-// The settings of an evaluation: the kill switch, under which stops trail and none is elected; the collar, or none; and the namespace
-// of child identities.
+// The settings of an evaluation: the kill switch, under which stops trail and none is elected; the collar, or none; and
+// the namespace of child identities.
 pub struct Settings {
     pub kill: bool,
     pub protection: Protection,

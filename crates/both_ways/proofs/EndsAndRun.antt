@@ -36,7 +36,9 @@ module _ (s : Settings) (prev : LastPrice) (w : List ℕ) (elected moved : List 
 
   -- a call answers, and leaves of store and lists
   abbrev Leaves : SegmentOutcome → Answer Counts → List ℕ → List (List ℕ) → List (List ℕ) → Type 0
-  Leaves o a u l m = (a ≡ o .answer) × ((u ≡ o .words) × ((l ≡ written (map electedWords (o .elected)) elected) × (m ≡ written (map movedWords (o .moved)) moved)))
+  Leaves o a u l m = (a ≡ o .answer)
+      × ((u ≡ o .words) × ((l ≡ written (map electedWords (o .elected)) elected)
+      × (m ≡ written (map movedWords (o .moved)) moved)))
 
   pub without-price : (ps : List ℕ) → length ps ≡ 0 → Leaves (outcome ps) (refused 16) w elected moved
   unfolding endsCall written
@@ -45,7 +47,11 @@ module _ (s : Settings) (prev : LastPrice) (w : List ℕ) (elected moved : List 
 
   abbrev between : List ℕ → SegmentOutcome
   between ps =
-      segmentCall s (record { prev = prev; first = toPrice (getD ps 0 0); last = toPrice (getD ps (length ps - 1) 0) }) w (length elected) (length moved)
+      segmentCall s (record {
+        prev = prev;
+        first = toPrice (getD ps 0 0);
+        last = toPrice (getD ps (length ps - 1) 0);
+      }) w (length elected) (length moved)
 
   between-ends : (ps : List ℕ) → (length ps ≡ 0 → ⊥) → between ps ≡ outcome ps
   unfolding endsCall
@@ -54,7 +60,8 @@ module _ (s : Settings) (prev : LastPrice) (w : List ℕ) (elected moved : List 
       let e : length (x ∷ xs) - 1 ≡ length xs = omega arith in
       rw (e, last-word x xs)
 
-  pub with-prices : (ps : List ℕ) → (length ps ≡ 0 → ⊥) → (a : Answer Counts) (u : List ℕ) (l m : List (List ℕ)) → Leaves (between ps) a u l m
+  pub with-prices : (ps : List ℕ) → (length ps ≡ 0 → ⊥) → (a : Answer Counts) (u : List ℕ) (l m : List (List ℕ))
+      → Leaves (between ps) a u l m
       → Leaves (outcome ps) a u l m
   with-prices ps h a u l m d = subst (λ (o : SegmentOutcome). Leaves o a u l m) (between-ends ps h) d
 
@@ -83,7 +90,8 @@ alike-entries (x ∷ xs) = rw (alike-like x, alike-entries xs)
 listed-alike : (xs : List Elected) (l : List (List ℕ)) (k : ℕ) → length xs ≡ k
     → map alikeWords (take k (written (map electedWords xs) l)) ≡ map likeWords (map likeness xs)
 listed-alike xs l k e =
-    ap (λ (t : List (List ℕ)). map alikeWords t) (taken-written (map electedWords xs) l k (length-map xs electedWords ∙ e)) ∙ alike-entries xs
+    ap (λ (t : List (List ℕ)). map alikeWords t)
+    (taken-written (map electedWords xs) l k (length-map xs electedWords ∙ e)) ∙ alike-entries xs
 
 ------------------------------------------------------------------------
 -- The theorem
@@ -95,16 +103,19 @@ module _ (s : Settings) (prev : LastPrice) (w : List ℕ) (elected moved listed 
   abbrev Run : List Price → WalkOutcome
   Run ps = walkCall s prev ps w (length listed)
 
-  both : (ps : List Price) → Comparable ps w w (length elected) (length moved) (length listed) → DecidedByEnds (Ends ps) (Run ps)
+  both : (ps : List Price) → Comparable ps w w (length elected) (length moved) (length listed)
+      → DecidedByEnds (Ends ps) (Run ps)
   unfolding endsCall
   both [] c = let z = c .some in absurd (omega (arith, z))
   both (p ∷ ps) c =
-      ends-decide s prev (c .direction) p ps w (length elected) (length moved) (length listed) (c .formed) (c .goes) (c .few) (c .elected-room)
+      ends-decide s prev (c .direction) p ps w (length elected) (length moved) (length listed) (c .formed) (c .goes)
+      (c .few) (c .elected-room)
       (c .moved-room) (c .listed-room)
 
   run-listed : (ps : List Price) (d : DecidedByEnds (Ends ps) (Run ps)) → length (Run ps .elected) ≡ d .elected
   run-listed ps d =
-      sym (length-map (Run ps .elected) likeness) ∙ ap length (sym (d .alike)) ∙ length-map (Ends ps .elected) likeness ∙ d .listed
+      sym (length-map (Run ps .elected) likeness) ∙ ap length (sym (d .alike)) ∙ length-map (Ends ps .elected) likeness
+      ∙ d .listed
 
 -- Demand 3. What the calls answer and leave by their contracts is decided by the run's ends
 pub decided : (s : Settings) (prev : LastPrice) (ps : List Price) (w v : List ℕ) (elected moved listed : List (List ℕ))
@@ -121,7 +132,8 @@ decided s prev ps w v elected moved listed a b w′ v′ elected′ listed′ ea
     = both s prev w elected moved listed ps (rw (← same) at c) in
     let eb′ : b ≡ Run s prev w elected moved listed ps .answer = rw same eb in
     let ev′ : v′ ≡ Run s prev w elected moved listed ps .words = rw same ev in
-    let em′ : listed′ ≡ written (map electedWords (Run s prev w elected moved listed ps .elected)) listed = rw same em in
+    let em′ : listed′ ≡ written (map electedWords (Run s prev w elected moved listed ps .elected)) listed =
+    rw same em in
     record {
       elected = d .elected;
       moves = d .moves;
@@ -132,7 +144,8 @@ decided s prev ps w v elected moved listed a b w′ v′ elected′ listed′ ea
           ap (λ (t : List (List ℕ)). map alikeWords (take (d .elected) t)) el
           ∙ listed-alike (Ends s prev w elected moved listed ps .elected) elected (d .elected) (d .listed)
           ∙ ap (λ (t : List Likeness). map likeWords t) (d .alike)
-          ∙ sym (listed-alike (Run s prev w elected moved listed ps .elected) listed (d .elected) (run-listed s prev w elected moved listed ps d))
+          ∙ sym (listed-alike (Run s prev w elected moved listed ps .elected) listed (d .elected)
+          (run-listed s prev w elected moved listed ps d))
           ∙ sym (ap (λ (t : List (List ℕ)). map alikeWords (take (d .elected) t)) em′);
       stores = ew ∙ d .stores ∙ sym ev′;
     }

@@ -19,7 +19,11 @@ use Rattle.book.specs.declared.Settings.{Settings}
 -- the segment over a run's ends; a run of no prices has none, and is refused with the walk's number
 unfoldable pub endsCall : Settings → LastPrice → List Price → List ℕ → ℕ → ℕ → SegmentOutcome
 endsCall s prev [] w elected moved = record { answer = refused 16; words = w; elected = []; moved = [] }
-endsCall s prev (p ∷ ps) w elected moved = segmentCall s (record { prev = prev; first = p; last = lastOf p ps }) w elected moved
+endsCall s prev (p ∷ ps) w elected moved = segmentCall s (record {
+  prev = prev;
+  first = p;
+  last = lastOf p ps;
+}) w elected moved
 
 -- a run that never falls (Sell) or never rises (Buy)
 abbrev pub Goes : Side → List Price → Type 0
@@ -30,7 +34,8 @@ Goes d (p ∷ ps) = Monotone d p ps
 unfoldable pub alikeWords : List ℕ → List ℕ
 alikeWords e = take 7 e ++ drop 8 e
 
--- what demand 3 is about: two equal, well-formed stores, a run of 1 to 4,096 prices in one direction, and lists as long as the calls demand
+-- what demand 3 is about: two equal, well-formed stores, a run of 1 to 4,096 prices in one direction, and lists as long
+-- as the calls demand
 pub record Comparable (prices : List Price) (ends run : List ℕ) (elected moved listed : ℕ) : Type 0 where
   pub equal : ends ≡ run
   pub formed : wellFormed ends ≡ true
@@ -42,9 +47,10 @@ pub record Comparable (prices : List Price) (ends run : List ℕ) (elected moved
   pub moved-room : 2 * pendingIn ends ≤ moved
   pub listed-room : pendingIn ends ≤ listed
 
--- what it says of two answers, two stores and two lists of the elected after the calls: neither is refused; both answer the same number
--- elected; the entries listed are alike, entry by entry; and the two stores are equal in every word
-pub record Decided (ends run : Answer Counts) (endsStore runStore : List ℕ) (endsListed runListed : List (List ℕ)) : Type 0 where
+-- what it says of two answers, two stores and two lists of the elected after the calls: neither is refused; both answer
+-- the same number elected; the entries listed are alike, entry by entry; and the two stores are equal in every word
+pub record Decided (ends run : Answer Counts) (endsStore runStore : List ℕ)
+    (endsListed runListed : List (List ℕ)) : Type 0 where
   pub elected : ℕ
   pub moves : ℕ
   pub steps : ℕ

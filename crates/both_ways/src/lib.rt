@@ -1,5 +1,6 @@
-// A run of prices evaluated both ways, on two lent stores: by a segment over its ends, as a sweep's prints are, and by a walk over all of
-// its prices. Document 01's demand 3, that a run that never falls or never rises is decided by its ends, is the promise of one call here.
+// A run of prices evaluated both ways, on two lent stores: by a segment over its ends, as a sweep's prints are, and by
+// a walk over all of its prices. Document 01's demand 3, that a run that never falls or never rises is decided by its
+// ends, is the promise of one call here.
 use book::ElectedWords;
 use book::EvaluationAnswer;
 use book::LastPrice;
@@ -59,9 +60,9 @@ pub struct BothWays {
     pub run: EvaluationAnswer,
 }
 
-// Evaluates a run of prices on one store by its ends and on the other price by price. Where the two stores are equal and well formed, the
-// run never falls or never rises and has 1 to 4,096 prices, and the lists are as long as the calls demand, neither call is refused, both
-// elect the same stops, and the stores are equal again.
+// Evaluates a run of prices on one store by its ends and on the other price by price. Where the two stores are equal
+// and well formed, the run never falls or never rises and has 1 to 4,096 prices, and the lists are as long as the calls
+// demand, neither call is refused, both elect the same stops, and the stores are equal again.
 pub fn evaluate_both_ways(
     ends: &mut [u64],
     run: &mut [u64],

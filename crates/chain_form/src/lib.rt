@@ -1,4 +1,5 @@
-// The form check's walk of a chain: it ascends, holds the records of its side and no other, and ends after as many as there are.
+// The form check's walk of a chain: it ascends, holds the records of its side and no other, and ends after as many as
+// there are.
 use book::Chain;
 use book::StoreChain;
 use pricelevel::Side;

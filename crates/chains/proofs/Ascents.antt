@@ -40,12 +40,14 @@ module _ (rk : ℕ → ℕ) where
   ------------------------------------------------------------------------
   -- and ascends
 
-  insertRanked-ascending : (i : ℕ) (l : List ℕ) → All (Apart rk i) l → Ascending rk l → Ascending rk (insertRanked rk i l)
+  insertRanked-ascending : (i : ℕ) (l : List ℕ) → All (Apart rk i) l → Ascending rk l
+      → Ascending rk (insertRanked rk i l)
   unfolding insertBy
   insertRanked-ascending i [] n a = (tt, tt)
   insertRanked-ascending i (j ∷ l) n a = go (ltb (rk i) (rk j)) refl (insertRanked-ascending i l (n .1) (a .1))
     where
-      go : (t : Bool) → ltb (rk i) (rk j) ≡ t → Ascending rk (insertRanked rk i l) → Ascending rk (cond t (i ∷ j ∷ l) (j ∷ insertRanked rk i l))
+      go : (t : Bool) → ltb (rk i) (rk j) ≡ t → Ascending rk (insertRanked rk i l)
+          → Ascending rk (cond t (i ∷ j ∷ l) (j ∷ insertRanked rk i l))
       go true e rest =
           let h = ltb-true (rk i) (rk j) e in
           ((h, all-map {P = λ x. rk j < rk x} {Q = λ x. rk i < rk x} (λ x u. omega arith) l (a .0)), a)
@@ -58,14 +60,18 @@ module _ (rk : ℕ → ℕ) where
   unfolding sortBy
   sortRanked-ascending [] d = tt
   sortRanked-ascending (i ∷ l) d =
-      insertRanked-ascending i (sortRanked rk l) (sortRanked-within l (Apart rk i) (d .0)) (sortRanked-ascending l (d .1))
+      insertRanked-ascending i (sortRanked rk l) (sortRanked-within l (Apart rk i) (d .0))
+      (sortRanked-ascending l (d .1))
 
   ------------------------------------------------------------------------
   -- Two lists that ascend
 
   pub ascending-distinct : (l : List ℕ) → Ascending rk l → Distinct l
   ascending-distinct [] a = tt
-  ascending-distinct (i ∷ l) a = (all-map {P = λ j. rk i < rk j} {Q = λ j. i ≡ j → ⊥} (λ j h e. omega (arith, ap rk e)) l (a .0), ascending-distinct l (a .1))
+  ascending-distinct (i ∷ l) a = (
+    all-map {P = λ j. rk i < rk j} {Q = λ j. i ≡ j → ⊥} (λ j h e. omega (arith, ap rk e)) l (a .0),
+    ascending-distinct l (a .1),
+  )
 
   -- what is not j, of a list within j ∷ m, is within m
   without : (j : ℕ) (l m : List ℕ) → All (λ x. rk j < rk x) l → Within l (j ∷ m) → Within l m
@@ -80,7 +86,8 @@ module _ (rk : ℕ → ℕ) where
   -- the first of l is the first of j ∷ m, or ranks above it
   first-of : (i j : ℕ) (l m : List ℕ) → Ascending rk (j ∷ m) → Within (i ∷ l) (j ∷ m) → (i ≡ j) ⊎ (rk j < rk i)
   first-of i j l m a s =
-      s (λ x. (x ≡ j) ⊎ (rk j < rk x)) (inl refl, all-map {P = λ x. rk j < rk x} {Q = λ x. (x ≡ j) ⊎ (rk j < rk x)} (λ x u. inr u) m (a .0)) .0
+      s (λ x. (x ≡ j) ⊎ (rk j < rk x))
+      (inl refl, all-map {P = λ x. rk j < rk x} {Q = λ x. (x ≡ j) ⊎ (rk j < rk x)} (λ x u. inr u) m (a .0)) .0
 
   pub record AsMany (l m : List ℕ) : Type 0 where
     pub short : length l ≤ length m
@@ -95,7 +102,8 @@ module _ (rk : ℕ → ℕ) where
       (λ above. ascending-within (i ∷ l) m a (b .1) (without j (i ∷ l) m above s))
       (λ above. ascending-within l m (a .1) (b .1) (without j l m above (λ P h. s P h .1)))
     where
-      go : (i ≡ j) ⊎ (rk j < rk i) → (All (λ x. rk j < rk x) (i ∷ l) → AsMany (i ∷ l) m) → (All (λ x. rk j < rk x) l → AsMany l m) → AsMany (i ∷ l) (j ∷ m)
+      go : (i ≡ j) ⊎ (rk j < rk i) → (All (λ x. rk j < rk x) (i ∷ l) → AsMany (i ∷ l) m)
+          → (All (λ x. rk j < rk x) l → AsMany l m) → AsMany (i ∷ l) (j ∷ m)
       go (inl e) later here =
           let r = here (rw e at (a .0)) in
           record { short = omega (arith, r .short); same = λ q. let f : l ≡ m = r .same (omega arith) in cc }
@@ -107,7 +115,8 @@ module _ (rk : ℕ → ℕ) where
 pub ascending-alike : (rk rank : ℕ → ℕ) (l : List ℕ) → All (λ j. rk j ≡ rank j) l → Ascending rk l → Ascending rank l
 ascending-alike rk rank [] e a = tt
 ascending-alike rk rank (i ∷ l) e a = (
-  all-map-both {P = λ j. rk j ≡ rank j} {Q = λ j. rk i < rk j} {R = λ j. rank i < rank j} (λ j f u. omega (arith, e .0)) l (e .1) (a .0),
+  all-map-both {P = λ j. rk j ≡ rank j} {Q = λ j. rk i < rk j} {R = λ j. rank i < rank j}
+      (λ j f u. omega (arith, e .0)) l (e .1) (a .0),
   ascending-alike rk rank l (e .1) (a .1),
 )
 
@@ -123,4 +132,5 @@ differ-members rk [] d i j hi hj e = absurd (has-none i hi)
 differ-members rk (k ∷ l) d i j hi hj e =
     has-cases i k l hi
     (λ p. has-cases j k l hj (λ q. sym p ∙ q) (λ t. absurd (all-has (Apart rk k) l (d .0) j t (rw p e))))
-    (λ s. has-cases j k l hj (λ q. absurd (all-has (Apart rk k) l (d .0) i s (rw q (sym e)))) (λ t. differ-members rk l (d .1) i j s t e))
+    (λ s. has-cases j k l hj (λ q. absurd (all-has (Apart rk k) l (d .0) i s (rw q (sym e))))
+    (λ t. differ-members rk l (d .1) i j s t e))

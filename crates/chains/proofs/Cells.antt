@@ -24,6 +24,7 @@ unfolding cell
 cell-plus i k = omega arith
 
 -- the place tells the record and the word
-pub cell-injective : (i j k m : ℕ) → 1 ≤ i → 1 ≤ j → k < recordLength → m < recordLength → cell i k ≡ cell j m → (i ≡ j) × (k ≡ m)
+pub cell-injective : (i j k m : ℕ) → 1 ≤ i → 1 ≤ j → k < recordLength → m < recordLength → cell i k ≡ cell j m
+    → (i ≡ j) × (k ≡ m)
 unfolding cell
 cell-injective i j k m hi hj hk hm e = omega arith

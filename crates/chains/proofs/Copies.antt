@@ -25,7 +25,8 @@ copied-more w words at k s c h = record {
   rest = rw (add-one, add-suc) (rw (drop-cons words k 0 h) at (c .rest));
 }
 
-pub copied-all : (w words : List ℕ) (at k : ℕ) (s : List ℕ) → Copied w words at k s → length words ≤ k → s ≡ sets w at words
+pub copied-all : (w words : List ℕ) (at k : ℕ) (s : List ℕ) → Copied w words at k s → length words ≤ k
+    → s ≡ sets w at words
 copied-all w words at k s c h =
     let e : k ≡ length words = omega (arith, c .most) in
     rw (e, drop-length) at (c .rest)

@@ -17,13 +17,15 @@ use Rattle.chains.specs.Records.{Record}
 ------------------------------------------------------------------------
 -- A run of stores
 
-getD-sets-other : (vs l : List ℕ) (i q : ℕ) → ((m : ℕ) → m < length vs → q ≢ i + m) → getD (sets l i vs) q 0 ≡ getD l q 0
+getD-sets-other : (vs l : List ℕ) (i q : ℕ) → ((m : ℕ) → m < length vs → q ≢ i + m)
+    → getD (sets l i vs) q 0 ≡ getD l q 0
 getD-sets-other [] l i q h = refl
 getD-sets-other (v ∷ vs) l i q h =
     getD-sets-other vs (set l i v) (suc i) q (λ m t e. h (suc m) (omega arith) (omega arith))
     ∙ getD-set-other l i q v 0 (λ e. h 0 (omega arith) (omega arith))
 
-getD-sets-here : (vs l : List ℕ) (i m : ℕ) → i + length vs ≤ length l → m < length vs → getD (sets l i vs) (i + m) 0 ≡ getD vs m 0
+getD-sets-here : (vs l : List ℕ) (i m : ℕ) → i + length vs ≤ length l → m < length vs
+    → getD (sets l i vs) (i + m) 0 ≡ getD vs m 0
 getD-sets-here [] l i m h t = absurd (omega arith)
 getD-sets-here (v ∷ vs) l i zero h t =
     let e : i + 0 ≡ i = omega arith in
@@ -51,10 +53,12 @@ module _ (n : ℕ) (w : List ℕ) (i : ℕ) (vs : List ℕ) (few : length vs ≤
   pub sets-word : Record n w i → (k : ℕ) → k < length vs → recordWord (sets w (cell i 0) vs) i k ≡ getD vs k 0
   unfolding recordWord
   sets-word r k h =
-      rw (cell-plus i k) (getD-sets-here vs w (cell i 0) k (omega (arith, cell-end n i (r .least) (r .most), r .inside .room)) h)
+      rw (cell-plus i k) (getD-sets-here vs w (cell i 0) k
+      (omega (arith, cell-end n i (r .least) (r .most), r .inside .room)) h)
 
   -- the words after them, and those of another record
-  pub sets-word-other : (j k : ℕ) → 1 ≤ i → 1 ≤ j → k < recordLength → (j ≡ i → length vs ≤ k) → recordWord (sets w (cell i 0) vs) j k ≡ recordWord w j k
+  pub sets-word-other : (j k : ℕ) → 1 ≤ i → 1 ≤ j → k < recordLength → (j ≡ i → length vs ≤ k)
+      → recordWord (sets w (cell i 0) vs) j k ≡ recordWord w j k
   unfolding recordWord
   sets-word-other j k low low' h later =
       getD-sets-other vs w (cell i 0) (cell j k)
@@ -71,5 +75,7 @@ module _ (n : ℕ) (w : List ℕ) (i : ℕ) (vs : List ℕ) (few : length vs ≤
 ------------------------------------------------------------------------
 -- The chains
 
-pub ready-sets : (n : ℕ) (w : List ℕ) (ch : StoreChain → List ℕ) (i : ℕ) (vs : List ℕ) → length vs ≤ recordLength → Ready n w ch i → Ready n (sets w (cell i 0) vs) ch i
-ready-sets n w ch i vs h = sets-keeps (λ v. Ready n v ch i) i recordLength (λ v k x t r. ready-set n v ch i k x t r) vs w 0 (omega arith)
+pub ready-sets : (n : ℕ) (w : List ℕ) (ch : StoreChain → List ℕ) (i : ℕ) (vs : List ℕ) → length vs ≤ recordLength
+    → Ready n w ch i → Ready n (sets w (cell i 0) vs) ch i
+ready-sets n w ch i vs h =
+    sets-keeps (λ v. Ready n v ch i) i recordLength (λ v k x t r. ready-set n v ch i k x t r) vs w 0 (omega arith)

@@ -36,7 +36,11 @@ pub record IsLink (n q : ℕ) : Type 0 where
 pub isLink-head : (n : ℕ) (a : StoreChain) → IsLink n (startOf a)
 isLink-head n a =
     let s = name-stands a in
-    record { low = s .low; below = omega (arith, s .high); no-data = λ i k low h e. omega (arith, s .high, cell-least i k) }
+    record {
+      low = s .low;
+      below = omega (arith, s .high);
+      no-data = λ i k low h e. omega (arith, s .high, cell-least i k);
+    }
 
 pub isLink-cell : (n : ℕ) (a : StoreChain) (j : ℕ) → 1 ≤ j → j ≤ n → IsLink n (cell j (nextOf a))
 isLink-cell n a j least most =
@@ -63,7 +67,17 @@ pub kept-entry : (n : ℕ) (w v : List ℕ) → Kept n w v → (i : ℕ) → 1 �
 unfolding entryAt
 kept-entry n w v k i low =
     let same : (m : ℕ) → IsData m → recordWord v i m ≡ recordWord w i m = λ m h. k .words i m low h in
-    rw (same 0 (omega arith), same 1 (omega arith), same 2 (omega arith), same 3 (omega arith), same 4 (omega arith), same 5 (omega arith), same 6 (omega arith), same 7 (omega arith), same 8 (omega arith))
+    rw (
+      same 0 (omega arith),
+      same 1 (omega arith),
+      same 2 (omega arith),
+      same 3 (omega arith),
+      same 4 (omega arith),
+      same 5 (omega arith),
+      same 6 (omega arith),
+      same 7 (omega arith),
+      same 8 (omega arith),
+    )
 
 pub kept-rank : (n : ℕ) (w v : List ℕ) → Kept n w v → (c : Chain) (i : ℕ) → 1 ≤ i → rankAt c v i ≡ rankAt c w i
 unfolding rankAt

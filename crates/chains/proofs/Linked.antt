@@ -16,7 +16,6 @@ use Rattle.chains.specs.Links.{Linked}
 use Rattle.book.specs.Sizes.{nextByStop}
 
 module _ (n : ℕ) (w : List ℕ) (k : ℕ) where
-
   ------------------------------------------------------------------------
   -- Heads and links
 
@@ -25,10 +24,12 @@ module _ (n : ℕ) (w : List ℕ) (k : ℕ) where
   Names l j = recordWord w j k ≡ nextIn l j
 
   names-later : (i : ℕ) (l : List ℕ) → All (λ j. i ≢ j) l → All (Names l) l → All (Names (i ∷ l)) l
-  names-later i l d h = all-map-both {P = λ j. i ≢ j} {Q = Names l} {R = Names (i ∷ l)} (λ j u e. e ∙ sym (nextIn-there i j l u)) l d h
+  names-later i l d h =
+      all-map-both {P = λ j. i ≢ j} {Q = Names l} {R = Names (i ∷ l)} (λ j u e. e ∙ sym (nextIn-there i j l u)) l d h
 
   names-earlier : (i : ℕ) (l : List ℕ) → All (λ j. i ≢ j) l → All (Names (i ∷ l)) l → All (Names l) l
-  names-earlier i l d h = all-map-both {P = λ j. i ≢ j} {Q = Names (i ∷ l)} {R = Names l} (λ j u e. e ∙ nextIn-there i j l u) l d h
+  names-earlier i l d h =
+      all-map-both {P = λ j. i ≢ j} {Q = Names (i ∷ l)} {R = Names l} (λ j u e. e ∙ nextIn-there i j l u) l d h
 
   pub linked-head : (p : ℕ) (l : List ℕ) → Linked n w k p l → getD w p 0 ≡ headOr0 l
   unfolding headOr0
@@ -38,17 +39,28 @@ module _ (n : ℕ) (w : List ℕ) (k : ℕ) where
   pub linked-names : (p : ℕ) (l : List ℕ) → Linked n w k p l → All (Names l) l
   unfolding recordWord
   linked-names p [] c = tt
-  linked-names p (i ∷ l) c =
-      (linked-head (cell i k) l (c .3) ∙ sym (nextIn-here i l), names-later i l (linked-distinct n k w p (i ∷ l) c .0) (linked-names (cell i k) l (c .3)))
+  linked-names p (i ∷ l) c = (
+    linked-head (cell i k) l (c .3)
+        ∙ sym (nextIn-here i l),
+    names-later i l (linked-distinct n k w p (i ∷ l) c .0)
+        (linked-names (cell i k) l (c .3)),
+  )
 
-  pub names-linked : (p : ℕ) (l : List ℕ) → Distinct l → All (λ j. (1 ≤ j) × (j ≤ n)) l → All (Names l) l → getD w p 0 ≡ headOr0 l → Linked n w k p l
+  pub names-linked : (p : ℕ) (l : List ℕ) → Distinct l → All (λ j. (1 ≤ j) × (j ≤ n)) l → All (Names l) l
+      → getD w p 0 ≡ headOr0 l → Linked n w k p l
   unfolding recordWord headOr0
   names-linked p [] d r h e = e
-  names-linked p (i ∷ l) d r h e =
-      (e, r .0 .0, r .0 .1, names-linked (cell i k) l (d .1) (r .1) (names-earlier i l (d .0) (h .1)) (h .0 ∙ nextIn-here i l))
+  names-linked p (i ∷ l) d r h e = (
+    e,
+    r .0 .0,
+    r .0 .1,
+    names-linked (cell i k) l (d .1) (r .1) (names-earlier i l (d .0) (h .1))
+        (h .0 ∙ nextIn-here i l),
+  )
 
 -- the free chain is read along its links
-pub linked-freeFrom : (n : ℕ) (w : List ℕ) (f p : ℕ) (l : List ℕ) → Linked n w 9 p l → length l ≤ f → freeFrom w f (getD w p 0) ≡ l
+pub linked-freeFrom : (n : ℕ) (w : List ℕ) (f p : ℕ) (l : List ℕ) → Linked n w 9 p l → length l ≤ f
+    → freeFrom w f (getD w p 0) ≡ l
 unfolding freeFrom recordWord
 linked-freeFrom n w zero p [] c h = refl
 linked-freeFrom n w (suc f) p [] c h = rw (eq-eqb (getD w p 0) 0 c)

@@ -76,7 +76,8 @@ unfolding remove
 remove-has j i [] n h = h
 remove-has j i (z ∷ l) n h = cases (eqb z i)
     (λ e. rw e (has-rest j z l (λ q. n (sym q ∙ eqb-true z i e)) h))
-    (λ e. rw e (has-cases j z l h (λ q. rw q (has-here j (remove i l))) (λ t. has-there j z (remove i l) (remove-has j i l n t))))
+    (λ e. rw e (has-cases j z l h (λ q. rw q (has-here j (remove i l)))
+    (λ t. has-there j z (remove i l) (remove-has j i l n t))))
 
 pub remove-length : (i : ℕ) (l : List ℕ) → T (has i l) → suc (length (remove i l)) ≡ length l
 unfolding remove
@@ -97,7 +98,8 @@ pub remove-distinct : (i : ℕ) (l : List ℕ) → Distinct l → Distinct (remo
 unfolding remove
 remove-distinct i [] d = d
 remove-distinct i (j ∷ l) d = cases (eqb j i) (λ e. rw e (d .1))
-    (λ e. rw e (absent-distinct j (remove i l) (λ h. distinct-absent j l d (has-remove j i l h)) (remove-distinct i l (d .1))))
+    (λ e. rw e (absent-distinct j (remove i l) (λ h. distinct-absent j l d (has-remove j i l h))
+    (remove-distinct i l (d .1))))
 
 -- what is taken out of a list without repeats is out
 pub remove-out : (i : ℕ) (l : List ℕ) → Distinct l → T (has i (remove i l)) → ⊥
@@ -128,7 +130,8 @@ distinct-length (suc n) l d r =
 
 pub has-first : (j : ℕ) (f l : List ℕ) → T (has j f) → T (has j (f ++ l))
 has-first j [] l h = absurd (has-none j h)
-has-first j (z ∷ f) l h = has-cases j z f h (λ e. rw e (has-here j (f ++ l))) (λ t. has-there j z (f ++ l) (has-first j f l t))
+has-first j (z ∷ f) l h =
+    has-cases j z f h (λ e. rw e (has-here j (f ++ l))) (λ t. has-there j z (f ++ l) (has-first j f l t))
 
 pub has-back : (j : ℕ) (f l : List ℕ) → T (has j l) → T (has j (f ++ l))
 has-back j [] l h = h
@@ -142,7 +145,8 @@ has-parts j (z ∷ f) l h a b =
 pub remove-after : (i : ℕ) (f m : List ℕ) → (T (has i f) → ⊥) → remove i (f ++ (i ∷ m)) ≡ f ++ m
 remove-after i [] m n = remove-here i m
 remove-after i (z ∷ f) m n =
-    remove-there i z (f ++ (i ∷ m)) (λ e. n (rw e (has-here i f))) ∙ ap (λ (l : List ℕ). z ∷ l) (remove-after i f m (λ h. n (has-there i z f h)))
+    remove-there i z (f ++ (i ∷ m)) (λ e. n (rw e (has-here i f)))
+    ∙ ap (λ (l : List ℕ). z ∷ l) (remove-after i f m (λ h. n (has-there i z f h)))
 
 pub distinct-front : (i : ℕ) (f m : List ℕ) → Distinct (f ++ (i ∷ m)) → T (has i f) → ⊥
 distinct-front i [] m d h = has-none i h

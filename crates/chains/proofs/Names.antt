@@ -1,4 +1,5 @@
--- Laws of the names of chains: where their heads and links stand, what tells one from another, and a change of one chain.
+-- Laws of the names of chains: where their heads and links stand, what tells one from another, and a change of one
+-- chain.
 use Prim.Native.Nat.{ℕ, _-_, _≤_, _<_}
 use mathlib.Core.Path.{_≡_, refl, sym, ap, fun-ext, _∙_}
 use mathlib.Core.Logic.{_≢_}
@@ -30,15 +31,47 @@ pub record Stands (a : StoreChain) : Type 0 where
   pub one-of-two : nextOf a ≢ nextByStop → nextOf a ≡ nextByWatermark
 
 pub name-stands : (a : StoreChain) → Stands a
-name-stands (Ordered (ByStop Sell)) = record { low = omega arith; high = omega arith; no-data = λ d. d .no-stop-link; in-record = omega arith; one-of-two = λ h. absurd (h refl) }
-name-stands (Ordered (ByWatermark Sell)) = record { low = omega arith; high = omega arith; no-data = λ d. d .no-watermark-link; in-record = omega arith; one-of-two = λ h. refl }
-name-stands (Ordered (ByStop Buy)) = record { low = omega arith; high = omega arith; no-data = λ d. d .no-stop-link; in-record = omega arith; one-of-two = λ h. absurd (h refl) }
-name-stands (Ordered (ByWatermark Buy)) = record { low = omega arith; high = omega arith; no-data = λ d. d .no-watermark-link; in-record = omega arith; one-of-two = λ h. refl }
-name-stands Free = record { low = omega arith; high = omega arith; no-data = λ d. d .no-stop-link; in-record = omega arith; one-of-two = λ h. absurd (h refl) }
+name-stands (Ordered (ByStop Sell)) = record {
+  low = omega arith;
+  high = omega arith;
+  no-data = λ d. d .no-stop-link;
+  in-record = omega arith;
+  one-of-two = λ h. absurd (h refl);
+}
+name-stands (Ordered (ByWatermark Sell)) = record {
+  low = omega arith;
+  high = omega arith;
+  no-data = λ d. d .no-watermark-link;
+  in-record = omega arith;
+  one-of-two = λ h. refl;
+}
+name-stands (Ordered (ByStop Buy)) = record {
+  low = omega arith;
+  high = omega arith;
+  no-data = λ d. d .no-stop-link;
+  in-record = omega arith;
+  one-of-two = λ h. absurd (h refl);
+}
+name-stands (Ordered (ByWatermark Buy)) = record {
+  low = omega arith;
+  high = omega arith;
+  no-data = λ d. d .no-watermark-link;
+  in-record = omega arith;
+  one-of-two = λ h. refl;
+}
+name-stands Free = record {
+  low = omega arith;
+  high = omega arith;
+  no-data = λ d. d .no-stop-link;
+  in-record = omega arith;
+  one-of-two = λ h. absurd (h refl);
+}
 
 nameAt : ℕ → StoreChain
 nameAt h =
-    cond (eqb h 4) (Ordered (ByStop Sell)) (cond (eqb h 5) (Ordered (ByWatermark Sell)) (cond (eqb h 6) (Ordered (ByStop Buy)) (cond (eqb h 7) (Ordered (ByWatermark Buy)) Free)))
+    cond (eqb h 4) (Ordered (ByStop Sell))
+    (cond (eqb h 5) (Ordered (ByWatermark Sell))
+    (cond (eqb h 6) (Ordered (ByStop Buy)) (cond (eqb h 7) (Ordered (ByWatermark Buy)) Free)))
 
 nameAt-head : (a : StoreChain) → nameAt (startOf a) ≡ a
 unfolding nameAt
@@ -77,12 +110,14 @@ pub watermark-group : (a : StoreChain) → nextOf a ≡ nextByWatermark → grou
 watermark-group a l g = omega (arith, ap nextOf (free-group a g))
 
 -- the chains of a side are two
-pub side-group : (side : Side) (a : StoreChain) → Ordered (ByStop side) ≢ a → Ordered (ByWatermark side) ≢ a → groupOf (Ordered (ByStop side)) ≢ groupOf a
+pub side-group : (side : Side) (a : StoreChain) → Ordered (ByStop side) ≢ a → Ordered (ByWatermark side) ≢ a
+    → groupOf (Ordered (ByStop side)) ≢ groupOf a
 side-group side a stops watermarks g =
     let s = name-stands a in
     cases (eqb (nextOf a) nextByStop)
     (λ e. stops (name-injective (Ordered (ByStop side)) a g (sym (eqb-true _ _ e))))
-    (λ e. watermarks (name-injective (Ordered (ByWatermark side)) a g (sym (s .one-of-two (eqb-false (nextOf a) nextByStop e)))))
+    (λ e. watermarks (name-injective (Ordered (ByWatermark side)) a g
+    (sym (s .one-of-two (eqb-false (nextOf a) nextByStop e)))))
 
 pub of-free : (c : Chain) → Ordered c ≢ Free
 of-free c e = let z : _≡_ {A = ℕ} 0 1 = cc in omega arith
@@ -102,7 +137,8 @@ unfolding upd
 upd-other a b l ch n = rw (ne-eqb (startOf a) (startOf b) (λ e. n (head-injective a b e)))
 
 -- what holds of the new chain, and of each other, holds of each
-pub upd-all : (P : StoreChain → List ℕ → Type 0) (a : StoreChain) (l : List ℕ) (ch : StoreChain → List ℕ) → P a l → ((b : StoreChain) → a ≢ b → P b (ch b))
+pub upd-all : (P : StoreChain → List ℕ → Type 0) (a : StoreChain) (l : List ℕ) (ch : StoreChain → List ℕ) → P a l
+    → ((b : StoreChain) → a ≢ b → P b (ch b))
     → (b : StoreChain) → P b (upd a l ch b)
 unfolding upd
 upd-all P a l ch here other b = cases (eqb (startOf a) (startOf b))
@@ -112,13 +148,15 @@ upd-all P a l ch here other b = cases (eqb (startOf a) (startOf b))
 -- the last change of a chain counts
 pub upd-twice : (a : StoreChain) (l m : List ℕ) (ch : StoreChain → List ℕ) → upd a l (upd a m ch) ≡ upd a l ch
 upd-twice a l m ch =
-    fun-ext (upd-all (λ b x. x ≡ upd a l ch b) a l (upd a m ch) (sym (upd-here a l ch)) (λ b ne. upd-other a b m ch ne ∙ sym (upd-other a b l ch ne)))
+    fun-ext (upd-all (λ b x. x ≡ upd a l ch b) a l (upd a m ch) (sym (upd-here a l ch))
+    (λ b ne. upd-other a b m ch ne ∙ sym (upd-other a b l ch ne)))
 
 -- a chain that stays
 pub upd-same : (a : StoreChain) (l : List ℕ) (ch : StoreChain → List ℕ) → l ≡ ch a → upd a l ch ≡ ch
 upd-same a l ch e = fun-ext (upd-all (λ b x. x ≡ ch b) a l ch e (λ b ne. refl))
 
 -- a chain that is neither of a side's is of the other side
-pub other-side : (side : Side) (c : Chain) → Ordered (ByStop side) ≢ Ordered c → Ordered (ByWatermark side) ≢ Ordered c → chainSide c ≢ side
+pub other-side : (side : Side) (c : Chain) → Ordered (ByStop side) ≢ Ordered c → Ordered (ByWatermark side) ≢ Ordered c
+    → chainSide c ≢ side
 other-side side (ByStop d) stops watermarks e = stops (rw e refl)
 other-side side (ByWatermark d) stops watermarks e = watermarks (rw e refl)

@@ -40,21 +40,30 @@ module _ (c : Chain) (rk : ℕ → ℕ) where
     fits : StopFits (p .entry)
     ranked : rk (p .index) ≡ rank c (p .entry)
 
-  insert-indices : (x : Pending) (l : List Pending) → Ranked x → All Ranked l → indices (insert c x l) ≡ insertRanked rk (x .index) (indices l)
+  insert-indices : (x : Pending) (l : List Pending) → Ranked x → All Ranked l
+      → indices (insert c x l) ≡ insertRanked rk (x .index) (indices l)
   unfolding indices insertBy
   insert-indices x [] r h = refl
   insert-indices x (y ∷ l) r h =
-      rw (r .ranked, h .0 .ranked, ← before-rank c (x .entry) (y .entry) (r .fits) (h .0 .fits), ← insert-indices x l r (h .1))
+      rw (
+        r .ranked,
+        h .0 .ranked,
+        ← before-rank c (x .entry) (y .entry) (r .fits) (h .0 .fits),
+        ← insert-indices x l r (h .1),
+      )
       (go (before c (x .entry) (y .entry)))
     where
-      go : (t : Bool) → indices (cond t (x ∷ y ∷ l) (y ∷ insert c x l)) ≡ cond t (x .index ∷ y .index ∷ indices l) (y .index ∷ indices (insert c x l))
+      go : (t : Bool) → indices (cond t (x ∷ y ∷ l) (y ∷ insert c x l)) ≡ cond t (x .index ∷ y .index ∷ indices l)
+          (y .index ∷ indices (insert c x l))
       go true = refl
       go false = refl
 
   sort-indices : (l : List Pending) → All Ranked l → indices (sort c l) ≡ sortRanked rk (indices l)
   unfolding indices sortBy
   sort-indices [] h = refl
-  sort-indices (x ∷ l) h = insert-indices x (sort c l) (h .0) (sortBy-all (earlierIn c) Ranked l (h .1)) ∙ ap (insertRanked rk (x .index)) (sort-indices l (h .1))
+  sort-indices (x ∷ l) h =
+      insert-indices x (sort c l) (h .0) (sortBy-all (earlierIn c) Ranked l (h .1))
+      ∙ ap (insertRanked rk (x .index)) (sort-indices l (h .1))
 
 -- the bridge: of a book whose numbers are words
 pub chain-members : (c : Chain) (b : Book) → All SlotFits (b .slots)
@@ -62,7 +71,8 @@ pub chain-members : (c : Chain) (b : Book) → All SlotFits (b .slots)
 unfolding chainIndices chain members
 chain-members c b f =
     sort-indices c (rankIn c (b .slots)) (gather (pendingOn (chainSide c)) 1 (b .slots))
-    (all-map ranked (gather (pendingOn (chainSide c)) 1 (b .slots)) (gather-gathered (pendingOn (chainSide c)) 1 (b .slots)))
+    (all-map ranked (gather (pendingOn (chainSide c)) 1 (b .slots))
+    (gather-gathered (pendingOn (chainSide c)) 1 (b .slots)))
   where
     ranked : (p : Pending) → Gathered (pendingOn (chainSide c)) 1 (b .slots) p → Ranked c (rankIn c (b .slots)) p
     ranked p g =

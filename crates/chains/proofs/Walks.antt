@@ -1,5 +1,5 @@
--- A walk along a chain: the state of a loop that stands at p, and what a step makes of it. What the loop is to find is `f head l`, for
--- the whole chain l; at p it is `f p` of what is left of the chain.
+-- A walk along a chain: the state of a loop that stands at p, and what a step makes of it. What the loop is to find is
+-- `f head l`, for the whole chain l; at p it is `f p` of what is left of the chain.
 use Prim.Native.Nat.{ℕ, suc, _-_, _≤_, _<_}
 use mathlib.Core.Path.{_≡_, ap, _∙_}
 use mathlib.Core.List.{List, [], _∷_}
@@ -56,12 +56,22 @@ module _ (n : ℕ) (w : List ℕ) (k head : ℕ) (f : ℕ → List ℕ → ℕ) 
   pub at-next : {p left : ℕ} (a : At p left) → (P [] → getD w p 0 ≡ 0 → ⊥) → Next p left (getD w p 0)
   at-next {p} {left} a z = go (a .rest) (a .short) (a .linked) (a .keeps) (a .same)
     where
-      go : (r : List ℕ) → length r ≤ left → Linked n w k p r → P r → ((l : List ℕ) → Linked n w k head l → f head l ≡ f p r) → Next p left (getD w p 0)
+      go : (r : List ℕ) → length r ≤ left → Linked n w k p r → P r
+          → ((l : List ℕ) → Linked n w k head l → f head l ≡ f p r) → Next p left (getD w p 0)
       go [] s d t e = absurd (z t d)
-      go (j ∷ r) s d t e = rw (d .0) (record { rest = r; least = d .1; most = d .2; short = omega arith; linked = d .3; keeps = t; same = e })
+      go (j ∷ r) s d t e = rw (d .0) (record {
+        rest = r;
+        least = d .1;
+        most = d .2;
+        short = omega arith;
+        linked = d .3;
+        keeps = t;
+        same = e;
+      })
 
   -- past record j
-  pub at-past : {p left j : ℕ} → Room n w → k < recordLength → (m : Next p left j) → P (m .rest) → f p (j ∷ m .rest) ≡ f (cell j k) (m .rest)
+  pub at-past : {p left j : ℕ} → Room n w → k < recordLength → (m : Next p left j) → P (m .rest)
+      → f p (j ∷ m .rest) ≡ f (cell j k) (m .rest)
       → At (cell j k) (left - 1)
   at-past {p} {left} {j} r h m t e = record {
     rest = m .rest;

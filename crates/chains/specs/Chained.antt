@@ -1,5 +1,5 @@
--- The five chains of a store together, at any lists of records and over any data, and what an operation on links keeps: document 01,
--- The store.
+-- The five chains of a store together, at any lists of records and over any data, and what an operation on links keeps:
+-- document 01, The store.
 use Prim.Native.Nat.{ℕ, _≤_, _<_}
 use mathlib.Core.Path.{_≡_}
 use mathlib.Core.Logic.{_≢_}
@@ -27,7 +27,8 @@ pub record Chained (n : ℕ) (w : List ℕ) (ch : StoreChain → List ℕ) : Typ
   pub apart : (a b : StoreChain) → groupOf a ≢ groupOf b → (i : ℕ) → T (has i (ch a)) → T (has i (ch b)) → ⊥
   pub blank : (i : ℕ) → T (has i (ch Free)) → recordWord w i nextByWatermark ≡ 0
 
--- v is w but for heads and links: the first four header words, the data words of records and the words behind the store are those of w
+-- v is w but for heads and links: the first four header words, the data words of records and the words behind the store
+-- are those of w
 pub record Kept (n : ℕ) (w v : List ℕ) : Type 0 where
   pub size : length v ≡ length w
   pub header : (k : ℕ) → k < 4 → getD v k 0 ≡ getD w k 0
@@ -64,7 +65,8 @@ pub record Ready (n : ℕ) (w : List ℕ) (ch : StoreChain → List ℕ) (i : �
 -- the chains, with i taken out of the two of a side
 abbrev pub without : Side → ℕ → (StoreChain → List ℕ) → StoreChain → List ℕ
 without side i ch =
-    upd (Ordered (ByWatermark side)) (remove i (ch (Ordered (ByWatermark side)))) (upd (Ordered (ByStop side)) (remove i (ch (Ordered (ByStop side)))) ch)
+    upd (Ordered (ByWatermark side)) (remove i (ch (Ordered (ByWatermark side))))
+    (upd (Ordered (ByStop side)) (remove i (ch (Ordered (ByStop side)))) ch)
 
 -- the chains, with i put into the two of a side, by the ranks that the words give
 abbrev pub within : Side → List ℕ → ℕ → (StoreChain → List ℕ) → StoreChain → List ℕ

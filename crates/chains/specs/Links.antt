@@ -9,12 +9,14 @@ use Rattle.book.specs.Words.{cell}
 use Rattle.book.specs.Sizes.{recordLength}
 use Rattle.chains.specs.Records.{Room}
 
--- the word at position p names the first record of l, and word k of each the next, up to 0; each is one of the n records
+-- the word at position p names the first record of l, and word k of each the next, up to 0; each is one of the n
+-- records
 abbrev pub Linked : ℕ → List ℕ → ℕ → ℕ → List ℕ → Type 0
 Linked n w k p [] = getD w p 0 ≡ 0
 Linked n w k p (j ∷ l) = (getD w p 0 ≡ j) × (1 ≤ j) × (j ≤ n) × Linked n w k (cell j k) l
 
--- a walk along a chain stays in the slice: the n records are there, k is a word of a record, and the chain starts at one of the words
+-- a walk along a chain stays in the slice: the n records are there, k is a word of a record, and the chain starts at
+-- one of the words
 pub record Walk (n : ℕ) (w : List ℕ) (k p : ℕ) (l : List ℕ) : Type 0 where
   pub inside : Room n w
   pub link : k < recordLength
@@ -29,7 +31,8 @@ wordAfter k p (j ∷ l) = wordAfter k (cell j k) l
 ------------------------------------------------------------------------
 -- Linking in and out
 
--- where the word stands that is to name i, in the chain that the word at p starts: past each record that does not rank after i
+-- where the word stands that is to name i, in the chain that the word at p starts: past each record that does not rank
+-- after i
 unfoldable pub place : (ℕ → ℕ) → ℕ → ℕ → ℕ → List ℕ → ℕ
 place rk k i p [] = p
 place rk k i p (j ∷ l) = cond (ltb (rk i) (rk j)) p (place rk k i (cell j k) l)

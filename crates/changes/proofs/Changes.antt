@@ -40,7 +40,10 @@ module _ (change : OrderUpdate) (id : Id) (trade : LastPrice) (w : List ℕ) whe
   unfolding update firstNo decide
   update-unformed e = rw e
 
-  pub update-missing : wellFormed w ≡ true → lookup id (bookOf w) ≡ none → update change id trade w ≡ record { answer = refused 12; words = w }
+  pub update-missing : wellFormed w ≡ true → lookup id (bookOf w) ≡ none → update change id trade w ≡ record {
+    answer = refused 12;
+    words = w;
+  }
   unfolding update firstNo decide updateFound
   update-missing e q = rw (e, q)
 
@@ -61,7 +64,8 @@ module _ (change : OrderUpdate) (id : Id) (trade : LastPrice) (w : List ℕ) whe
       unfolding update firstNo decide updateFound changeFound
       update-refused k h = rw (e, f .looked, others, ← entry-read, ← h)
 
-      module _ (h : none ≡ firstNo (changeQuestions change trade t b)) (new : StopEntry) (is : new ≡ changedEntry change t b) (next : ℕ)
+      module _ (h : none ≡ firstNo (changeQuestions change trade t b)) (new : StopEntry)
+          (is : new ≡ changedEntry change t b) (next : ℕ)
           (after : next ≡ cond (takesSequence change) (getD w 2 0 + 1) (getD w 2 0)) where
         changeable : Changeable change (f .entry) b
         changeable = change-changeable change trade (f .entry) b (rw (← entry-read) (sym h))
@@ -78,7 +82,10 @@ module _ (change : OrderUpdate) (id : Id) (trade : LastPrice) (w : List ℕ) whe
         pub replaced-fits : StopFits new → next < 2 ^ 64 → Fits (replaced i new next b)
         replaced-fits g small = withSlot-fits b next (i - 1) (held new) (b .free) (wellFormed-fits w e) small g
 
-        update-accepted : update change id trade w ≡ record { answer = accepted (changedEntry change (f .entry) b); words = storedBook (changed change p b) w }
+        update-accepted : update change id trade w ≡ record {
+          answer = accepted (changedEntry change (f .entry) b);
+          words = storedBook (changed change p b) w;
+        }
         unfolding update firstNo decide updateFound changeFound
         update-accepted =
             let asked : firstNo (changeQuestions change trade (f .entry) b) ≡ none = rw (← entry-read) (sym h) in

@@ -1,5 +1,5 @@
-// The change of a pending stop, from orderbook-rs's stop_orders.rs: its questions in their order, then one operation; a refused call
-// alters nothing.
+// The change of a pending stop, from orderbook-rs's stop_orders.rs: its questions in their order, then one operation; a
+// refused call alters nothing.
 use admission::not_triggered;
 use admission::within_watermark;
 use book::LastPrice;
@@ -48,9 +48,9 @@ fn ask_change(update: OrderUpdate, trade: LastPrice, t: StopEntry, next: u64) ->
         .ask(sequence_left(update, next), Refusal::SequenceExhausted)
 }
 
-// Changes the pending stop of an identity; a quantity of zero cancels it. Refused: the store is not well formed (1); no such stop (12); a
-// change of price to the same (13); quantity zero (4); the stop beyond its watermark (6) or elected by the last trade (7); no sequence
-// left where one is taken (11).
+// Changes the pending stop of an identity; a quantity of zero cancels it. Refused: the store is not well formed (1); no
+// such stop (12); a change of price to the same (13); quantity zero (4); the stop beyond its watermark (6) or elected
+// by the last trade (7); no sequence left where one is taken (11).
 pub fn update_pending_stop(
     s: &mut [u64],
     id: Id,

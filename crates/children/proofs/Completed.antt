@@ -53,13 +53,17 @@ module _ {n : ℕ} {w : List ℕ} {b : Book} {r : List ℕ} (st : Stored n w b r
 -- One entry
 
 -- the words of a fill give it back, but for what the entry does not ask
-pub completed-fill : (s : Settings) (b : Book) (f : Fill) → completed s b (fillWords f) ≡ electedWords (electedEntry s b f)
+pub completed-fill : (s : Settings) (b : Book) (f : Fill)
+    → completed s b (fillWords f) ≡ electedWords (electedEntry s b f)
 unfolding completed fillWords electedWords electedEntry
 completed-fill s b f = rw (kindOf-number (f .stop .id .kind), sideFrom-number (sideOf (f .stop)))
 
 -- as the code makes it of what its parts tell
-pub completed-words : (s : Settings) (b : Book) (e : List ℕ) (kind : IdKind) (side : Side) (l : Limit) (child : Id) (present price pending : ℕ)
-    → kind ≡ kindOf (getD e 0 0) → side ≡ sideFrom (getD e 3 0) → l ≡ limitUnder (s .protection) side (record { 0 = getD e 4 0 })
+pub completed-words : (s : Settings) (b : Book) (e : List ℕ) (kind : IdKind) (side : Side) (l : Limit) (child : Id)
+    (present price pending : ℕ)
+    → kind ≡ kindOf (getD e 0 0) → side ≡ sideFrom (getD e 3 0) → l ≡ limitUnder (s .protection) side (record {
+      0 = getD e 4 0;
+    })
     → child ≡ childId (s .namespace) (record { kind = kind; high = getD e 1 0; low = getD e 2 0 })
     → present ≡ limitPresent l → price ≡ limitWord l → pending ≡ cond (isPending child b) 1 0
     → (getD e 0 0 ∷ getD e 1 0 ∷ getD e 2 0 ∷ getD e 3 0 ∷ getD e 4 0 ∷ getD e 5 0 ∷ getD e 6 0 ∷ getD e 7 0
@@ -70,7 +74,8 @@ completed-words s b e kind side l child present price pending k d m i p q z = rw
 ------------------------------------------------------------------------
 -- A run of entries
 
--- before the entry at a place, where those up to `to` are to be completed: they are on the way to what the first list becomes
+-- before the entry at a place, where those up to `to` are to be completed: they are on the way to what the first list
+-- becomes
 pub record Doing (g : List ℕ → List ℕ) (list : List (List ℕ)) (from to at : ℕ) (now : List (List ℕ)) : Type 0 where
   pub size : length now ≡ length list
   pub same : changed [] g now at (to - at) ≡ changed [] g list from (to - from)
@@ -79,7 +84,8 @@ module _ (g : List ℕ → List ℕ) (list : List (List ℕ)) (from to : ℕ) wh
   pub doing-first : Doing g list from to from list
   doing-first = record { size = refl; same = refl }
 
-  pub doing-next : (at : ℕ) (now after : List (List ℕ)) → Doing g list from to at now → at < to → after ≡ set now at (g (getD now at []))
+  pub doing-next : (at : ℕ) (now after : List (List ℕ)) → Doing g list from to at now → at < to
+      → after ≡ set now at (g (getD now at []))
       → Doing g list from to (at + 1) after
   unfolding changed
   doing-next at now after h less e =
@@ -93,16 +99,20 @@ module _ (g : List ℕ → List ℕ) (list : List (List ℕ)) (from to : ℕ) wh
             ∙ (rw q at (h .same));
       }
 
-  pub doing-last : (at : ℕ) (now : List (List ℕ)) → Doing g list from to at now → to ≤ at → now ≡ changed [] g list from (to - from)
+  pub doing-last : (at : ℕ) (now : List (List ℕ)) → Doing g list from to at now → to ≤ at
+      → now ≡ changed [] g list from (to - from)
   unfolding changed
   doing-last at now h done = let q : to - at ≡ 0 = omega (arith, done) in rw q at (h .same)
 
 -- of the words of fills, in a store: the words of the elected
 pub fills-completed : {n : ℕ} {w : List ℕ} {b : Book} {r : List ℕ} → Stored n w b r → (s : Settings) (fs : List Fill)
-    → (list l : List (List ℕ)) (from to : ℕ) → to ≤ length list → list ≡ sets l from (map fillWords fs) → to ≡ from + length fs
-    → changed [] (completed s (bookOf w)) list from (to - from) ≡ sets list from (map (λ f. electedWords (electedEntry s b f)) fs)
+    → (list l : List (List ℕ)) (from to : ℕ) → to ≤ length list → list ≡ sets l from (map fillWords fs)
+    → to ≡ from + length fs
+    → changed [] (completed s (bookOf w)) list from (to - from) ≡ sets list from
+    (map (λ f. electedWords (electedEntry s b f)) fs)
 fills-completed {b = b} st s fs list l from to few e q =
     let long : to - from ≡ length fs = omega (arith, q) in
     let size : length list ≡ length l = ap length e ∙ length-sets l from (map fillWords fs) in
     rw (long, stored-book st, e)
-    (changed-sets [] (completed s b) fillWords (λ f. electedWords (electedEntry s b f)) (completed-fill s b) fs l from (omega (arith, few, q, size)))
+    (changed-sets [] (completed s b) fillWords (λ f. electedWords (electedEntry s b f))
+    (completed-fill s b) fs l from (omega (arith, few, q, size)))

@@ -1,4 +1,5 @@
-// What an elected entry gets once its stop has left: the protection limit, the child's identity, and whether that identity is pending.
+// What an elected entry gets once its stop has left: the protection limit, the child's identity, and whether that
+// identity is pending.
 use book::ElectedWords;
 use book::Settings;
 use pricelevel::Id;
@@ -93,8 +94,8 @@ fn complete_entry(s: &[u64], n: u64, settings: Settings, list: &mut [ElectedWord
     ];
 }
 
-// Completes the entries from one place to another, which have the words of fills: each with its limit, its child order's identity, and
-// whether that is pending in the store.
+// Completes the entries from one place to another, which have the words of fills: each with its limit, its child
+// order's identity, and whether that is pending in the store.
 pub fn complete(
     s: &[u64],
     n: u64,

@@ -1,5 +1,5 @@
--- An elected stop leaves from the head of the stop chain, when it has left the watermark chain: what each step asks, and what the last
--- one leaves.
+-- An elected stop leaves from the head of the stop chain, when it has left the watermark chain: what each step asks,
+-- and what the last one leaves.
 use Prim.Native.Nat.{ℕ, _-_, _≤_, _<_}
 use native.Mathlib.Omega.{arith}
 use mathlib.Core.Path.{_≡_, refl, sym, ap, subst, fun-ext, _∙_}
@@ -46,7 +46,8 @@ use Rattle.electing.specs.Elected.{droppedChains, Dropped}
 -- those of a book without record i, but for the watermark chain of a side, which the elected have left
 abbrev pub droppedWithout : Side → Price → ℕ → Book → StoreChain → List ℕ
 droppedWithout side price i b =
-    upd (Ordered (ByWatermark side)) (chainIndices (ByWatermark side) (takenOn side price (vacated i b))) (chainsWithout i b)
+    upd (Ordered (ByWatermark side)) (chainIndices (ByWatermark side) (takenOn side price (vacated i b)))
+    (chainsWithout i b)
 
 -- the chains of a side are two
 watermark-stop : (side : Side) → Ordered (ByWatermark side) ≢ Ordered (ByStop side)
@@ -54,13 +55,16 @@ watermark-stop side e = stop-watermark side (sym e)
 
 -- record i becomes the first of the free chain
 freed-chains : (side : Side) (price : Price) (i : ℕ) (b : Book) (a : StoreChain)
-    → upd Free (i ∷ droppedWithout side price i b Free) (droppedWithout side price i b) a ≡ droppedChains side price (vacated i b) a
+    → upd Free (i ∷ droppedWithout side price i b Free)
+    (droppedWithout side price i b) a ≡ droppedChains side price (vacated i b) a
 unfolding vacated
 freed-chains side price i b =
     upd-all (λ a l. l ≡ droppedChains side price (vacated i b) a) Free _ (droppedWithout side price i b)
-    (ap (λ (l : List ℕ). i ∷ l) (upd-other (Ordered (ByWatermark side)) Free _ (chainsWithout i b) (of-free (ByWatermark side)))
+    (ap (λ (l : List ℕ). i ∷ l)
+    (upd-other (Ordered (ByWatermark side)) Free _ (chainsWithout i b) (of-free (ByWatermark side)))
     ∙ sym (upd-other (Ordered (ByWatermark side)) Free _ (chainsOf (vacated i b)) (of-free (ByWatermark side))))
-    (upd-all (λ a l. Free ≢ a → l ≡ droppedChains side price (vacated i b) a) (Ordered (ByWatermark side)) _ (chainsWithout i b)
+    (upd-all (λ a l. Free ≢ a → l ≡ droppedChains side price (vacated i b) a)
+    (Ordered (ByWatermark side)) _ (chainsWithout i b)
     (λ nf. sym (upd-here (Ordered (ByWatermark side)) _ (chainsOf (vacated i b))))
     (λ a nw nf. others a nf ∙ sym (upd-other (Ordered (ByWatermark side)) a _ (chainsOf (vacated i b)) nw)))
   where
@@ -73,13 +77,16 @@ freed-chains side price i b =
 
 -- what taking record i out of a chain does to them all
 abbrev pub TakenOut : ℕ → List ℕ → List ℕ → StoreChain → ℕ → Type 0
-TakenOut n w v a i = (ch : StoreChain → List ℕ) → Chained n w ch → T (has i (ch a)) → Chained n v (upd a (remove i (ch a)) ch)
+TakenOut n w v a i = (ch : StoreChain → List ℕ) → Chained n w ch → T (has i (ch a))
+    → Chained n v (upd a (remove i (ch a)) ch)
 
 -- and putting it in front of the free chain
 abbrev pub Pushed : ℕ → List ℕ → List ℕ → ℕ → Type 0
-Pushed n w v i = (ch : StoreChain → List ℕ) → Ready n w ch i → recordWord w i nextByWatermark ≡ 0 → Chained n v (upd Free (i ∷ ch Free) ch)
+Pushed n w v i = (ch : StoreChain → List ℕ) → Ready n w ch i → recordWord w i nextByWatermark ≡ 0
+    → Chained n v (upd Free (i ∷ ch Free) ch)
 
-module _ {side : Side} {price : Price} {n : ℕ} {w : List ℕ} {count : ℕ} {b : Book} {r : List ℕ} (d : Dropped side price n w count b r) where
+module _ {side : Side} {price : Price} {n : ℕ} {w : List ℕ} {count : ℕ} {b : Book} {r : List ℕ}
+    (d : Dropped side price n w count b r) where
   stop-chain : droppedChains side price b (Ordered (ByStop side)) ≡ chainIndices (ByStop side) b
   stop-chain = upd-other (Ordered (ByWatermark side)) (Ordered (ByStop side)) _ (chainsOf b) (watermark-stop side)
 
@@ -94,25 +101,32 @@ module _ {side : Side} {price : Price} {n : ℕ} {w : List ℕ} {count : ℕ} {b
     in-stops = rw (stop-chain, q .first) (has-here i (q .rest))
 
     module _ (w1 : List ℕ) (k1 : Kept n w w1) (u1 : TakenOut n w w1 (Ordered (ByStop side)) i) where
-      chains1 : (a : StoreChain) → upd (Ordered (ByStop side)) (remove i (droppedChains side price b (Ordered (ByStop side)))) (droppedChains side price b) a
+      chains1 : (a : StoreChain)
+          → upd (Ordered (ByStop side)) (remove i (droppedChains side price b (Ordered (ByStop side))))
+          (droppedChains side price b) a
           ≡ droppedWithout side price i b a
       chains1 =
           upd-all (λ a l. l ≡ droppedWithout side price i b a) (Ordered (ByStop side)) _ (droppedChains side price b)
           (ap (remove i) stop-chain ∙ sym (chain-out (ByStop side) b (d .valid) (d .fits) i (m .from))
-          ∙ sym (upd-other (Ordered (ByWatermark side)) (Ordered (ByStop side)) _ (chainsWithout i b) (watermark-stop side)))
-          (upd-all (λ a l. Ordered (ByStop side) ≢ a → l ≡ droppedWithout side price i b a) (Ordered (ByWatermark side)) _ (chainsOf b)
+          ∙ sym (upd-other (Ordered (ByWatermark side)) (Ordered (ByStop side)) _ (chainsWithout i b)
+          (watermark-stop side)))
+          (upd-all (λ a l. Ordered (ByStop side) ≢ a → l ≡ droppedWithout side price i b a)
+          (Ordered (ByWatermark side)) _ (chainsOf b)
           (λ ns. ap (chainIndices (ByWatermark side)) (sym (taken-step (d .valid) (d .fits) q))
           ∙ sym (upd-here (Ordered (ByWatermark side)) _ (chainsWithout i b)))
           (λ a nw ns. others a nw ns ∙ sym (upd-other (Ordered (ByWatermark side)) a _ (chainsWithout i b) nw)))
         where
-          others : (a : StoreChain) → Ordered (ByWatermark side) ≢ a → Ordered (ByStop side) ≢ a → chainsOf b a ≡ chainsWithout i b a
+          others : (a : StoreChain) → Ordered (ByWatermark side) ≢ a → Ordered (ByStop side) ≢ a
+              → chainsOf b a ≡ chainsWithout i b a
           others (Ordered c) nw ns =
-              sym (chain-other c b (d .valid) (d .fits) i (m .from) (m .entry) (m .there) (λ e. other-side side c ns nw (e ∙ sym (m .of-side))))
+              sym (chain-other c b (d .valid) (d .fits) i (m .from) (m .entry) (m .there)
+              (λ e. other-side side c ns nw (e ∙ sym (m .of-side))))
           others Free nw ns = refl
 
       ready1 : Ready n w1 (droppedWithout side price i b) i
       ready1 = record {
-        chained = subst (λ (ch : StoreChain → List ℕ). Chained n w1 ch) (fun-ext chains1) (u1 (droppedChains side price b) (d .chained) in-stops);
+        chained = subst (λ (ch : StoreChain → List ℕ). Chained n w1 ch) (fun-ext chains1)
+            (u1 (droppedChains side price b) (d .chained) in-stops);
         least = m .from;
         most = rw (d .contents .records) at (m .to);
         out = upd-all (λ a l. T (has i l) → ⊥) (Ordered (ByWatermark side)) _ (chainsWithout i b) gone others;
@@ -129,27 +143,34 @@ module _ {side : Side} {price : Price} {n : ℕ} {w : List ℕ} {count : ℕ} {b
           others : (a : StoreChain) → Ordered (ByWatermark side) ≢ a → T (has i (chainsWithout i b a)) → ⊥
           others (Ordered c) nw t = vacated-absent c b (d .fits) i t
           others Free nw t =
-              d .chained .apart (Ordered (ByStop side)) Free (λ g. of-free (ByStop side) (free-group (Ordered (ByStop side)) g)) i in-stops
-              (rw (upd-other (Ordered (ByWatermark side)) Free (chainIndices (ByWatermark side) (takenOn side price b)) (chainsOf b) nw) t)
+              d .chained .apart (Ordered (ByStop side)) Free
+              (λ g. of-free (ByStop side) (free-group (Ordered (ByStop side)) g)) i in-stops
+              (rw (upd-other (Ordered (ByWatermark side)) Free (chainIndices (ByWatermark side) (takenOn side price b))
+              (chainsOf b) nw) t)
 
       pub record1 : Record n w1 i
       record1 = record { least = ready1 .least; most = ready1 .most; inside = ready1 .chained .inside }
 
       module _ (w2 : List ℕ) (e2 : w2 ≡ sets w1 (cell i 0) (recordOf vacant 0 0)) where
         pub ready2 : Ready n w2 (droppedWithout side price i b) i
-        ready2 = rw e2 (ready-sets n w1 (droppedWithout side price i b) i (recordOf vacant 0 0) (omega (arith, recordOf-length vacant 0 0)) ready1)
+        ready2 = rw e2 (ready-sets n w1 (droppedWithout side price i b) i (recordOf vacant 0 0)
+            (omega (arith, recordOf-length vacant 0 0)) ready1)
 
         pub blank2 : recordWord w2 i nextByWatermark ≡ 0
         blank2 =
-            rw e2 (sets-word n w1 i (recordOf vacant 0 0) (omega (arith, recordOf-length vacant 0 0)) record1 nextByWatermark (omega (arith, recordOf-length vacant 0 0))
+            rw e2 (sets-word n w1 i (recordOf vacant 0 0)
+            (omega (arith, recordOf-length vacant 0 0)) record1 nextByWatermark
+            (omega (arith, recordOf-length vacant 0 0))
             ∙ withLinks-watermark (dataWords vacant) (slot-long vacant) 0 0)
 
-        pub left-dropped : (w3 : List ℕ) → Kept n w2 w3 → Pushed n w2 w3 i → Dropped side price n w3 count (vacated i b) r
+        pub left-dropped : (w3 : List ℕ) → Kept n w2 w3 → Pushed n w2 w3 i
+            → Dropped side price n w3 count (vacated i b) r
         unfolding vacated
         left-dropped w3 k3 p3 = record {
           valid = vacated-valid _ b (d .valid) (first-in-book (d .valid) (d .fits) q);
           fits = vacated-fits i b (d .fits);
-          contents = contents-kept (rw (← e2) at (contents-written (contents-kept (d .contents) w1 k1) i record1 vacant 0 0)) w3 k3;
+          contents = contents-kept
+              (rw (← e2) at (contents-written (contents-kept (d .contents) w1 k1) i record1 vacant 0 0)) w3 k3;
           chained = subst (λ (ch : StoreChain → List ℕ). Chained n w3 ch) (fun-ext (freed-chains side price i b))
               (p3 (droppedWithout side price i b) ready2 blank2);
         }

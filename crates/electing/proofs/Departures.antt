@@ -1,4 +1,5 @@
--- The elected of a side leave one after the other, from the head of the stop chain: what one step leaves, and what holds of all.
+-- The elected of a side leave one after the other, from the head of the stop chain: what one step leaves, and what
+-- holds of all.
 use Prim.Native.Nat.{ℕ, zero, suc, _+_, _-_, _≤_}
 use native.Mathlib.Omega.{arith}
 use mathlib.Core.Path.{_≡_, refl, sym, ap, _∙_}
@@ -33,7 +34,8 @@ freed-indices [] [] free e = refl
 freed-indices [] (q ∷ m) free e = absurd (cons-ne-nil (q .index) (indices m) (sym e))
 freed-indices (p ∷ l) [] free e = absurd (cons-ne-nil (p .index) (indices l) e)
 freed-indices (p ∷ l) (q ∷ m) free e =
-    let same : p .index ≡ q .index = head-eq-of-cons-eq e in rw same (freed-indices l m (q .index ∷ free) (tail-eq-of-cons-eq e))
+    let same : p .index ≡ q .index =
+    head-eq-of-cons-eq e in rw same (freed-indices l m (q .index ∷ free) (tail-eq-of-cons-eq e))
 
 length-indices : (l : List Pending) → length (indices l) ≡ length l
 unfolding indices
@@ -81,14 +83,21 @@ module _ {side : Side} {price : Price} {b : Book} (v : Valid b) (f : Fits b) {i 
       together : indices (now .0) ++ left ≡ indices (electedIn side price rest) ++ left
       together =
           sym (remove-here i (indices (now .0) ++ left))
-          ∙ ap (remove i) (ap (λ (l : List Pending). indices l ++ left) (sym (now .1)) ∙ sym (elected-indices side price b))
+          ∙ ap (remove i) (ap (λ (l : List Pending). indices l ++ left) (sym (now .1))
+          ∙ sym (elected-indices side price b))
           ∙ sym (chain-out (ByStop side) b v f i (m .from)) ∙ elected-indices side price rest
           ∙ ap (λ (l : List ℕ). indices (electedIn side price rest) ++ l)
           (chainIndices-slots (ByStop side) (takenOn side price rest) (takenOn side price b) slots-step)
 
   pub count-step : length (electedIn side price b) ≡ suc (length (electedIn side price rest))
   count-step =
-      omega (arith, ap length (now .1), ap length indices-step, length-indices (now .0), length-indices (electedIn side price rest))
+      omega (
+        arith,
+        ap length (now .1),
+        ap length indices-step,
+        length-indices (now .0),
+        length-indices (electedIn side price rest),
+      )
 
   freed-step : freed (electedIn side price rest) (i ∷ b .free) ≡ freed (electedIn side price b) (b .free)
   unfolding freed
@@ -106,7 +115,8 @@ module _ (side : Side) (price : Price) where
   module _ (P : Book → Type 0) (none : (b : Book) → Valid b → Fits b → electedIn side price b ≡ [] → P b)
       (step : (b : Book) → Valid b → Fits b → (i : ℕ) → First side price b i → P (vacated i b) → P b) where
     turn : (b : Book) → Valid b → Fits b
-        → ((c : Book) → Valid c → Fits c → length (electedIn side price b) ≡ suc (length (electedIn side price c)) → P c) → P b
+        → ((c : Book) → Valid c → Fits c → length (electedIn side price b) ≡ suc (length (electedIn side price c))
+        → P c) → P b
     turn b v f later = go (electedIn side price b) refl
       where
         go : (l : List Pending) → electedIn side price b ≡ l → P b
@@ -114,7 +124,8 @@ module _ (side : Side) (price : Price) where
         go (p ∷ l) e =
             let i = p .index in
             let q = some-elected side price b f p l e in
-            step b v f i q (later (vacated i b) (vacated-valid _ b v (first-in-book v f q)) (vacated-fits i b f) (count-step v f q))
+            step b v f i q (later (vacated i b) (vacated-valid _ b v (first-in-book v f q)) (vacated-fits i b f)
+            (count-step v f q))
 
     turns : (k : ℕ) (b : Book) → Valid b → Fits b → length (electedIn side price b) ≡ k → P b
     turns zero b v f e = turn b v f (λ c vc fc q. absurd (omega (arith, q, e)))
@@ -125,18 +136,22 @@ module _ (side : Side) (price : Price) where
 
   pub taken-valid : (b : Book) → Valid b → Fits b → Valid (takenOn side price b)
   taken-valid =
-      one-by-one (λ b. Valid (takenOn side price b)) (λ b v f e. rw (taken-none side price b e) v) (λ b v f i q h. rw (taken-step v f q) at h)
+      one-by-one (λ b. Valid (takenOn side price b)) (λ b v f e. rw (taken-none side price b e) v)
+      (λ b v f i q h. rw (taken-step v f q) at h)
 
   -- as many fewer are pending
   pub taken-count : (b : Book) → Valid b → Fits b
       → pendingCount (b .slots) ≡ length (electedIn side price b) + pendingCount (takenOn side price b .slots)
   taken-count =
-      one-by-one (λ b. pendingCount (b .slots) ≡ length (electedIn side price b) + pendingCount (takenOn side price b .slots))
+      one-by-one (λ b. pendingCount (b .slots) ≡ length (electedIn side price b) + pendingCount
+      (takenOn side price b .slots))
       (λ b v f e. rw (taken-none side price b e, e) (omega arith))
-      (λ b v f i q h. omega (arith, rw (taken-step v f q) at h, count-step v f q, vacated-count _ b (first-in-book v f q)))
+      (λ b v f i q h. omega
+      (arith, rw (taken-step v f q) at h, count-step v f q, vacated-count _ b (first-in-book v f q)))
 
   -- they are no more than the chain has records
-  pub elected-few : (n : ℕ) (w : List ℕ) (k p : ℕ) (b : Book) → Linked n w k p (chainIndices (ByStop side) b) → length (electedIn side price b) ≤ n
+  pub elected-few : (n : ℕ) (w : List ℕ) (k p : ℕ) (b : Book) → Linked n w k p (chainIndices (ByStop side) b)
+      → length (electedIn side price b) ≤ n
   elected-few n w k p b h =
       let out : List ℕ = indices (electedIn side price b) in
       let left : List ℕ = chainIndices (ByStop side) (takenOn side price b) in

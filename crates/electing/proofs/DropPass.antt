@@ -1,5 +1,5 @@
--- A pass along a chain that takes the elected out: the state of the loop, and what a turn makes of it. The chain is front ++ rest, the
--- word at p names the first of rest, and front is what the pass has kept.
+-- A pass along a chain that takes the elected out: the state of the loop, and what a turn makes of it. The chain is
+-- front ++ rest, the word at p names the first of rest, and front is what the pass has kept.
 use Prim.Native.Nat.{ℕ, _-_, _≤_, _<_}
 use native.Mathlib.Omega.{arith}
 use mathlib.Core.Path.{_≡_, refl, sym, ap, _∙_}
@@ -117,7 +117,8 @@ module _ (n : ℕ) (a : StoreChain) (price : Price) (w0 : List ℕ) (ch : StoreC
 ------------------------------------------------------------------------
 -- The loop
 
--- along the chain that has this link and head, of chains that there are, and of all chains that the words have at the start
+-- along the chain that has this link and head, of chains that there are, and of all chains that the words have at the
+-- start
 pub record Passing (n : ℕ) (price : Price) (w0 : List ℕ) (link head : ℕ) (w : List ℕ) (p left : ℕ) : Type 0 where
   pub name : StoreChain
   pub its-link : link ≡ nextOf name
@@ -125,9 +126,11 @@ pub record Passing (n : ℕ) (price : Price) (w0 : List ℕ) (link head : ℕ) (
   pub chains : StoreChain → List ℕ
   pub chained : Chained n w0 chains
   pub kept : Kept n w0 w
-  pub passes : (a : StoreChain) → head ≡ startOf a → (ch : StoreChain → List ℕ) → Chained n w0 ch → Pass n a price w0 ch w p left
+  pub passes : (a : StoreChain) → head ≡ startOf a → (ch : StoreChain → List ℕ) → Chained n w0 ch
+      → Pass n a price w0 ch w p left
 
-pub passing-first : (n : ℕ) (price : Price) (w : List ℕ) (link head : ℕ) (a : StoreChain) → link ≡ nextOf a → head ≡ startOf a
+pub passing-first : (n : ℕ) (price : Price) (w : List ℕ) (link head : ℕ) (a : StoreChain) → link ≡ nextOf a
+    → head ≡ startOf a
     → (ch : StoreChain → List ℕ) → Chained n w ch → Passing n price w link head w head n
 passing-first n price w link head a el eh ch h = record {
   name = a;
@@ -146,7 +149,8 @@ pub record Places (n link : ℕ) (w : List ℕ) (p : ℕ) : Type 0 where
   pub room : storeLength n ≤ length w
   pub link-low : link < recordLength
 
-module _ {n : ℕ} {price : Price} {w0 : List ℕ} {link head : ℕ} {w : List ℕ} {p left : ℕ} (v : Passing n price w0 link head w p left) where
+module _ {n : ℕ} {price : Price} {w0 : List ℕ} {link head : ℕ} {w : List ℕ} {p left : ℕ}
+    (v : Passing n price w0 link head w p left) where
   abbrev here : Pass n (v .name) price w0 (v .chains) w p left
   here = v .passes (v .name) (v .its-head) (v .chains) (v .chained)
 
@@ -173,10 +177,12 @@ module _ {n : ℕ} {price : Price} {w0 : List ℕ} {link head : ℕ} {w : List �
       same-link : (a : StoreChain) → head ≡ startOf a → link ≡ nextOf a
       same-link a e = v .its-link ∙ ap nextOf (head-injective (v .name) a (sym (v .its-head) ∙ e))
 
-      same-test : {t : Bool} → electedAt (entryAt w (getD w p 0) .terms) price ≡ t → electedAt (entryAt w0 (getD w p 0) .terms) price ≡ t
+      same-test : {t : Bool} → electedAt (entryAt w (getD w p 0) .terms) price ≡ t
+          → electedAt (entryAt w0 (getD w p 0) .terms) price ≡ t
       same-test e = rw (kept-entry n w0 w (v .kept) (getD w p 0) (passing-record .least)) at e
 
-      pub passing-keep : electedAt (entryAt w (getD w p 0) .terms) price ≡ false → Passing n price w0 link head w at (left - 1)
+      pub passing-keep : electedAt (entryAt w (getD w p 0) .terms) price ≡ false
+          → Passing n price w0 link head w at (left - 1)
       passing-keep e = record {
         name = v .name;
         its-link = v .its-link;
@@ -187,7 +193,8 @@ module _ {n : ℕ} {price : Price} {w0 : List ℕ} {link head : ℕ} {w : List �
         passes = λ a q ch h. rw (is, same-link a q) (pass-keep n a price w0 ch (v .passes a q ch h) ne (same-test e));
       }
 
-      pub passing-drop : electedAt (entryAt w (getD w p 0) .terms) price ≡ true → Passing n price w0 link head (set w p (getD w at 0)) p (left - 1)
+      pub passing-drop : electedAt (entryAt w (getD w p 0) .terms) price ≡ true
+          → Passing n price w0 link head (set w p (getD w at 0)) p (left - 1)
       passing-drop e = record {
         name = v .name;
         its-link = v .its-link;

@@ -1,4 +1,5 @@
--- The elected of a side are a beginning of its stop chain, and the stop chain of the book after is what comes behind them.
+-- The elected of a side are a beginning of its stop chain, and the stop chain of the book after is what comes behind
+-- them.
 use Prim.Native.Nat.{ℕ}
 use mathlib.Core.Path.{_≡_, refl, sym, ap, _∙_}
 use mathlib.Core.Bool.{true, false, false≢true}
@@ -49,7 +50,9 @@ none-left Buy Sell t e = rw (← e) refl
 none-left Buy Buy t e = refl
 
 module _ (side : Side) (price : Price) where
-  elect-part : (s : Slot) → Part (Met side price) (Unmet side price) (elect side price s) (pendingOn side (stays side price s)) (pendingOn side s)
+  elect-part : (s : Slot)
+      → Part (Met side price) (Unmet side price) (elect side price s) (pendingOn side (stays side price s))
+      (pendingOn side s)
   unfolding elect stays vacatedBy leavingOn pendingOn
   elect-part vacant = never
   elect-part (held t) = cases (electedAt (t .terms) price)
@@ -63,22 +66,30 @@ module _ (side : Side) (price : Price) where
       (electedIn side price b) (chain (ByStop side) (takenOn side price b .slots)) (chain (ByStop side) (b .slots))
   unfolding electedIn takenOn chain
   elected-parted b =
-      parted (ByStop side) (Met side price) (Unmet side price) (stops-apart side price) (elect side price) (pendingOn side) (pendingOn side)
+      parted (ByStop side) (Met side price) (Unmet side price) (stops-apart side price) (elect side price)
+      (pendingOn side) (pendingOn side)
       (stays side price) 1 (b .slots) (all-of elect-part (b .slots))
 
   -- by index: first the elected, then the chain of the book after
   pub elected-indices : (b : Book)
-      → chainIndices (ByStop side) b ≡ indices (electedIn side price b) ++ chainIndices (ByStop side) (takenOn side price b)
+      → chainIndices (ByStop side) b ≡ indices (electedIn side price b) ++ chainIndices (ByStop side)
+      (takenOn side price b)
   unfolding chainIndices indices
-  elected-indices b = ap (λ (l : List Pending). indices l) (elected-parted b .joined) ∙ map-append (λ p. p .index) (electedIn side price b) _
+  elected-indices b = ap (λ (l : List Pending). indices l) (elected-parted b .joined)
+      ∙ map-append (λ p. p .index) (electedIn side price b) _
 
-  module _ (b : Book) (i : ℕ) (rest : List ℕ) (first : chainIndices (ByStop side) b ≡ i ∷ rest) (m : Member side (b .slots) i) where
+  module _ (b : Book) (i : ℕ) (rest : List ℕ) (first : chainIndices (ByStop side) b ≡ i ∷ rest)
+      (m : Member side (b .slots) i) where
     -- the stop that comes first is that of record i
-    first-stop : (p : Pending) (l : List Pending) → chain (ByStop side) (b .slots) ≡ p ∷ l → p ≡ record { index = i; entry = m .entry }
+    first-stop : (p : Pending) (l : List Pending) → chain (ByStop side) (b .slots) ≡ p ∷ l → p ≡ record {
+      index = i;
+      entry = m .entry;
+    }
     unfolding chainIndices indices
     first-stop p l e =
         let same : p .index ≡ i = go (rw e at first) in
-        let entry : p .entry ≡ m .entry = held-one (rw same at ((rw e at (chain-in-book (ByStop side) (b .slots))) .0 .there)) (m .there) in
+        let entry : p .entry ≡ m .entry =
+        held-one (rw same at ((rw e at (chain-in-book (ByStop side) (b .slots))) .0 .there)) (m .there) in
         λ x. record { index = same x; entry = entry x }
       where
         go : {x : ℕ} {k k' : List ℕ} → x ∷ k ≡ i ∷ k' → x ≡ i
@@ -93,7 +104,8 @@ module _ (side : Side) (price : Price) where
         → (l : List Pending) × (electedIn side price b ≡ record { index = i; entry = m .entry } ∷ l)
     first-elected e = go (electedIn side price b) (chain (ByStop side) (takenOn side price b .slots)) (elected-parted b)
       where
-        go : (early late : List Pending) → Parted (Met side price) (Unmet side price) early late (chain (ByStop side) (b .slots))
+        go : (early late : List Pending)
+            → Parted (Met side price) (Unmet side price) early late (chain (ByStop side) (b .slots))
             → (l : List Pending) × (early ≡ record { index = i; entry = m .entry } ∷ l)
         go [] [] p = absurd (some-stop (p .joined))
         go [] (q ∷ l) p =
@@ -103,9 +115,11 @@ module _ (side : Side) (price : Price) where
 
     -- it is not, and so none is
     pub first-unelected : electedAt (m .entry .terms) price ≡ false → electedIn side price b ≡ []
-    first-unelected e = go (electedIn side price b) (chain (ByStop side) (takenOn side price b .slots)) (elected-parted b)
+    first-unelected e = go (electedIn side price b) (chain (ByStop side) (takenOn side price b .slots))
+        (elected-parted b)
       where
-        go : (early late : List Pending) → Parted (Met side price) (Unmet side price) early late (chain (ByStop side) (b .slots)) → early ≡ []
+        go : (early late : List Pending)
+            → Parted (Met side price) (Unmet side price) early late (chain (ByStop side) (b .slots)) → early ≡ []
         go [] late p = refl
         go (q ∷ l) late p =
             let early : Met side price (m .entry) = rw (first-stop q (l ++ late) (p .joined)) at (p .front .0) in
@@ -116,7 +130,8 @@ module _ (side : Side) (price : Price) where
   unfolding chainIndices indices
   none-elected b e = go (electedIn side price b) (chain (ByStop side) (b .slots)) (elected-parted b .joined) e
     where
-      go : (early whole : List Pending) → whole ≡ early ++ chain (ByStop side) (takenOn side price b .slots) → indices whole ≡ [] → early ≡ []
+      go : (early whole : List Pending) → whole ≡ early ++ chain (ByStop side) (takenOn side price b .slots)
+          → indices whole ≡ [] → early ≡ []
       go [] whole j z = refl
       go (q ∷ l) [] j z = absurd (cons-ne-nil q _ (sym j))
       go (q ∷ l) (p ∷ k) j z = absurd (cons-ne-nil (p .index) (indices k) z)
@@ -131,7 +146,8 @@ pub record First (side : Side) (price : Price) (b : Book) (i : ℕ) : Type 0 whe
   pub member : Member side (b .slots) i
   pub elected : electedAt (member .entry .terms) price ≡ true
 
-pub some-elected : (side : Side) (price : Price) (b : Book) → Fits b → (p : Pending) (l : List Pending) → electedIn side price b ≡ p ∷ l
+pub some-elected : (side : Side) (price : Price) (b : Book) → Fits b → (p : Pending) (l : List Pending)
+    → electedIn side price b ≡ p ∷ l
     → First side price b (p .index)
 unfolding indices
 some-elected side price b f p l e =

@@ -1,5 +1,5 @@
--- From the words of a book to those of the book without the elected: nothing changes where none is, else what holds before and after they
--- leave.
+-- From the words of a book to those of the book without the elected: nothing changes where none is, else what holds
+-- before and after they leave.
 use Prim.Native.Nat.{ℕ, _+_, _-_, _≤_}
 use native.Mathlib.Omega.{arith}
 use mathlib.Core.Path.{_≡_, refl, sym, ap, subst}
@@ -29,7 +29,8 @@ use Rattle.electing.specs.Elected.{firstElected, unelected, Dropped}
 
 module _ (side : Side) (price : Price) {n : ℕ} {w : List ℕ} {b : Book} {r : List ℕ} (st : Stored n w b r) where
   -- none is elected
-  pub election-none : firstElected side price w ≡ 0 → (0 ≡ length (electedIn side price b)) × Stored n w (takenOn side price b) r
+  pub election-none : firstElected side price w ≡ 0
+      → (0 ≡ length (electedIn side price b)) × Stored n w (takenOn side price b) r
   election-none z =
       let h = stored-holds st in
       let none = none-first side price b (st .fits) (h .contents) (h .chained .linked (Ordered (ByStop side))) z in
@@ -48,7 +49,8 @@ module _ (side : Side) (price : Price) {n : ℕ} {w : List ℕ} {b : Book} {r : 
           valid = st .valid;
           fits = st .fits;
           contents = contents-kept (h .contents) w1 k1;
-          chained = rw (unelected-taken side price w b (st .valid) (st .fits) entries) at (u1 (chainsOf b) (h .chained));
+          chained = rw (unelected-taken side price w b (st .valid) (st .fits) entries) at
+              (u1 (chainsOf b) (h .chained));
         }
 
     -- all m have left, and so many fewer are pending
@@ -76,13 +78,15 @@ module _ (side : Side) (price : Price) {n : ℕ} {w : List ℕ} {b : Book} {r : 
       after-chained : Chained n w2 (chainsOf after)
       after-chained =
           subst (λ (ch : StoreChain → List ℕ). Chained n w2 ch)
-          (upd-same (Ordered (ByWatermark side)) _ (chainsOf after) (ap (chainIndices (ByWatermark side)) (taken-again side price b))) (left .chained)
+          (upd-same (Ordered (ByWatermark side)) _ (chainsOf after)
+          (ap (chainIndices (ByWatermark side)) (taken-again side price b))) (left .chained)
 
       pub election-stored : (m ≡ length (electedIn side price b)) × Stored n (set w2 1 (getD w2 1 0 - m)) after r
       election-stored = (
         number,
         holds-stored n _ after r (left .valid) (left .fits) (record {
-          contents = contents-numbers (contents-count (left .contents) _ (omega (arith, election-room))) (omega (arith, count)) refl;
+          contents = contents-numbers (contents-count (left .contents) _ (omega (arith, election-room)))
+              (omega (arith, count)) refl;
           chained = chained-set-header n w2 (chainsOf after) after-chained 1 _ (omega arith);
         }),
       )

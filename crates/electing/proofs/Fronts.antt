@@ -22,7 +22,8 @@ use Rattle.chains.specs.Links.{Linked, wordAfter, spot, putOut}
 ------------------------------------------------------------------------
 -- A chain of a store is l ++ m
 
-module _ {n : ℕ} {w : List ℕ} (ch : StoreChain → List ℕ) (a : StoreChain) (l m : List ℕ) (s : Chained n w (upd a (l ++ m) ch)) where
+module _ {n : ℕ} {w : List ℕ} (ch : StoreChain → List ℕ) (a : StoreChain) (l m : List ℕ)
+    (s : Chained n w (upd a (l ++ m) ch)) where
   abbrev at : ℕ
   at = wordAfter (nextOf a) (startOf a) l
 
@@ -61,4 +62,5 @@ module _ {n : ℕ} {w : List ℕ} (ch : StoreChain → List ℕ) (a : StoreChain
     kept-second = rw spot-second at (kept-out n w (upd a (l ++ m) ch) s a i present)
 
     pub chained-second : Chained n (putOut w (nextOf a) i at) (upd a (l ++ rest) ch)
-    chained-second = rw (spot-second, remove-second, upd-twice a (l ++ rest) (l ++ m) ch) at (chained-out n w (upd a (l ++ m) ch) s a i present)
+    chained-second = rw (spot-second, remove-second, upd-twice a (l ++ rest) (l ++ m) ch) at
+        (chained-out n w (upd a (l ++ m) ch) s a i present)

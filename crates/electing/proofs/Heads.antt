@@ -47,7 +47,8 @@ module _ (price : Price) (w : List ℕ) (i : ℕ) where
   electedOr0-none z = cases (electedAt (entryAt w i .terms) price) (λ e. electedOr0-yes e ∙ z) electedOr0-no
 
 -- what the word at the head of a chain names is a record
-pub head-record : (n : ℕ) (w : List ℕ) (ch : StoreChain → List ℕ) → Chained n w ch → (a : StoreChain) (p : ℕ) → p ≡ startOf a → getD w p 0 ≢ 0
+pub head-record : (n : ℕ) (w : List ℕ) (ch : StoreChain → List ℕ) → Chained n w ch → (a : StoreChain) (p : ℕ)
+    → p ≡ startOf a → getD w p 0 ≢ 0
     → Record n w (getD w p 0)
 head-record n w ch h a p e ne =
     let from = linked-from n w (nextOf a) (startOf a) _ (ch a) refl (rw e at ne) (h .linked a) in

@@ -1,4 +1,5 @@
--- What an election leaves of the records: it takes out what is elected, nothing where nothing is, and nothing more a second time.
+-- What an election leaves of the records: it takes out what is elected, nothing where nothing is, and nothing more a
+-- second time.
 use Prim.Native.Nat.{ℕ, suc, _-_}
 use native.Mathlib.Omega.{arith}
 use mathlib.Core.Path.{_≡_, refl, ap}
@@ -27,7 +28,8 @@ use Rattle.book.specs.Lists.{sortBy, All}
 ------------------------------------------------------------------------
 -- Nothing gathered
 
-gather-empty : (choice : Slot → Option StopEntry) (i : ℕ) (ss : List Slot) → gather choice i ss ≡ [] → All (λ s. choice s ≡ none) ss
+gather-empty : (choice : Slot → Option StopEntry) (i : ℕ) (ss : List Slot) → gather choice i ss ≡ []
+    → All (λ s. choice s ≡ none) ss
 unfolding gather withIndex
 gather-empty choice i [] e = tt
 gather-empty choice i (s ∷ ss) e = go (choice s) refl e (gather-empty choice (suc i) ss)
@@ -46,7 +48,8 @@ sort-empty c (p ∷ l) e = absurd (omega (arith, sortBy-length (earlierIn c) (p 
 
 module _ (side : Side) (price : Price) where
   -- a stop of the side that is elected leaves
-  elect-held : (t : StopEntry) → side ≡ sideOf t → electedAt (t .terms) price ≡ true → elect side price (held t) ≡ some t
+  elect-held : (t : StopEntry) → side ≡ sideOf t → electedAt (t .terms) price ≡ true
+      → elect side price (held t) ≡ some t
   unfolding elect leavingOn ofSide
   elect-held t q e = rw (e, q) (go (sideOf t))
     where
@@ -54,7 +57,8 @@ module _ (side : Side) (price : Price) where
       go Sell = refl
       go Buy = refl
 
-  pub stays-elected : (t : StopEntry) → side ≡ sideOf t → electedAt (t .terms) price ≡ true → stays side price (held t) ≡ vacant
+  pub stays-elected : (t : StopEntry) → side ≡ sideOf t → electedAt (t .terms) price ≡ true
+      → stays side price (held t) ≡ vacant
   unfolding stays vacatedBy
   stays-elected t q e = rw (elect-held t q e)
 
@@ -85,7 +89,11 @@ module _ (side : Side) (price : Price) where
   -- the numbers of what is left are words
   pub taken-fits : (b : Book) → Fits b → Fits (takenOn side price b)
   unfolding takenOn
-  taken-fits b f = record { next = f .next; tick = f .tick; slots = all-mapped SlotFits SlotFits (stays side price) stays-fits (b .slots) (f .slots) }
+  taken-fits b f = record {
+    next = f .next;
+    tick = f .tick;
+    slots = all-mapped SlotFits SlotFits (stays side price) stays-fits (b .slots) (f .slots);
+  }
 
   module _ (b : Book) (e : electedIn side price b ≡ []) where
     none-elect : All (λ s. elect side price s ≡ none) (b .slots)
@@ -95,7 +103,12 @@ module _ (side : Side) (price : Price) where
     -- nothing is taken
     pub taken-none : takenOn side price b ≡ b
     unfolding takenOn stays vacatedBy freed
-    taken-none = rw (e, map-agree (stays side price) (λ s. s) (b .slots) (all-map (λ s h. rw h refl) (b .slots) none-elect), map-id (b .slots))
+    taken-none = rw (
+      e,
+      map-agree (stays side price) (λ s. s) (b .slots)
+          (all-map (λ s h. rw h refl) (b .slots) none-elect),
+      map-id (b .slots),
+    )
 
     -- no stop of the side is elected
     pub none-member : (j : ℕ) (m : Member side (b .slots) j) → electedAt (m .entry .terms) price ≡ false
@@ -112,5 +125,6 @@ module _ (side : Side) (price : Price) where
   unfolding takenOn electedIn sortBy
   taken-again b =
       let none : All (λ s. elect side price s ≡ none) (map (stays side price) (b .slots)) =
-      all-mapped (λ s. Unit {0}) _ (stays side price) (λ s h. stays-unelected s) (b .slots) (all-of (λ s. tt) (b .slots)) in
+      all-mapped (λ s. Unit {0}) _ (stays side price) (λ s h. stays-unelected s) (b .slots)
+      (all-of (λ s. tt) (b .slots)) in
       taken-none (takenOn side price b) (rw (gather-none (elect side price) 1 (map (stays side price) (b .slots)) none))

@@ -1,5 +1,5 @@
--- The elected leave one after the other: the state of the loop, and what a turn makes of it. The words are those of a book that ends as
--- the first does.
+-- The elected leave one after the other: the state of the loop, and what a turn makes of it. The words are those of a
+-- book that ends as the first does.
 use Prim.Native.Nat.{ℕ, suc, _+_, _≤_, _<_}
 use native.Mathlib.Omega.{arith}
 use mathlib.Core.Path.{_≡_, refl, sym, ap, _∙_}
@@ -47,9 +47,17 @@ pub record Turns (side : Side) (price : Price) (n : ℕ) (w0 w : List ℕ) (m : 
   pub size : length w ≡ length w0
   pub turns : (b : Book) (r : List ℕ) (count : ℕ) → Dropped side price n w0 count b r → Turn side price n count b r w m
 
-pub turns-first : {side : Side} {price : Price} {n : ℕ} {w : List ℕ} (b : Book) (r : List ℕ) (count : ℕ) → Dropped side price n w count b r
+pub turns-first : {side : Side} {price : Price} {n : ℕ} {w : List ℕ} (b : Book) (r : List ℕ) (count : ℕ)
+    → Dropped side price n w count b r
     → Turns side price n w w 0
-turns-first {side} {price} {n} {w} b r count d = record { book = b; beyond = r; count = count; start = d; size = refl; turns = first }
+turns-first {side} {price} {n} {w} b r count d = record {
+  book = b;
+  beyond = r;
+  count = count;
+  start = d;
+  size = refl;
+  turns = first;
+}
   where
     first : (b : Book) (r : List ℕ) (count : ℕ) → Dropped side price n w count b r → Turn side price n count b r w 0
     first b r count d = record {
@@ -67,7 +75,8 @@ module _ {side : Side} {price : Price} {n : ℕ} {w0 w : List ℕ} {m : ℕ} (v 
   pub turns-chained : (ch : StoreChain → List ℕ) × Chained n w ch
   turns-chained = (droppedChains side price (now .book), now .dropped .chained)
 
-  pub turns-end : firstElected side price w ≡ 0 → (b : Book) (r : List ℕ) (count : ℕ) → Dropped side price n w0 count b r
+  pub turns-end : firstElected side price w ≡ 0 → (b : Book) (r : List ℕ) (count : ℕ)
+      → Dropped side price n w0 count b r
       → (m ≡ length (electedIn side price b)) × Dropped side price n w count (takenOn side price b) r
   turns-end z b r count d =
       let t = v .turns b r count d in
@@ -104,7 +113,8 @@ module _ {side : Side} {price : Price} {n : ℕ} {w0 w : List ℕ} {m : ℕ} (v 
         )
 
         module _ {w3 : List ℕ} (k3 : Kept n w2 w3) (p3 : Pushed n w2 w3 i) where
-          again : {count : ℕ} {b : Book} {r : List ℕ} → Turn side price n count b r w m → Turn side price n count b r w3 (m + 1)
+          again : {count : ℕ} {b : Book} {r : List ℕ} → Turn side price n count b r w m
+              → Turn side price n count b r w3 (m + 1)
           again t = record {
             book = vacated i (t .book);
             dropped = left-dropped (t .dropped) (first t) w1 k1 u1 w2 e2 w3 k3 p3;

@@ -28,13 +28,15 @@ use Rattle.electing.proofs.Departures.{taken-step, one-by-one}
 use Rattle.electing.specs.Elected.{unelected}
 
 module _ (price : Price) (w : List ℕ) where
-  unelected-all : (l : List ℕ) → ((j : ℕ) → T (has j l) → electedAt (entryAt w j .terms) price ≡ false) → unelected price w l ≡ l
+  unelected-all : (l : List ℕ) → ((j : ℕ) → T (has j l) → electedAt (entryAt w j .terms) price ≡ false)
+      → unelected price w l ≡ l
   unfolding unelected
   unelected-all [] h = refl
   unelected-all (i ∷ l) h = rw (h i (has-here i l), unelected-all l (λ j t. h j (has-there j i l t)))
 
   -- one of the elected more or less
-  unelected-remove : (i : ℕ) (l : List ℕ) → electedAt (entryAt w i .terms) price ≡ true → unelected price w (remove i l) ≡ unelected price w l
+  unelected-remove : (i : ℕ) (l : List ℕ) → electedAt (entryAt w i .terms) price ≡ true
+      → unelected price w (remove i l) ≡ unelected price w l
   unfolding unelected remove
   unelected-remove i [] e = refl
   unelected-remove i (j ∷ l) e = cases (eqb j i)
@@ -46,10 +48,17 @@ abbrev pub Entries : Side → List ℕ → List Slot → Type 0
 Entries side w ss = (j : ℕ) (m : Member side ss j) → entryAt w j ≡ m .entry
 
 -- and those that are left when one record is vacated
-entries-vacated : (side : Side) (w : List ℕ) (b : Book) (i : ℕ) → Entries side w (b .slots) → Entries side w (vacated i b .slots)
+entries-vacated : (side : Side) (w : List ℕ) (b : Book) (i : ℕ) → Entries side w (b .slots)
+    → Entries side w (vacated i b .slots)
 unfolding vacated
 entries-vacated side w b i h j m =
-    h j (record { from = m .from; to = rw length-set at (m .to); entry = m .entry; there = there; of-side = m .of-side })
+    h j (record {
+      from = m .from;
+      to = rw length-set at (m .to);
+      entry = m .entry;
+      there = there;
+      of-side = m .of-side;
+    })
   where
     there : getD (b .slots) (j - 1) vacant ≡ held (m .entry)
     there = cases (eqb (j - 1) (i - 1))
@@ -68,7 +77,8 @@ module _ (side : Side) (price : Price) (w : List ℕ) where
     where
       Left : Book → Type 0
       Left b = Entries side w (b .slots)
-          → unelected price w (chainIndices (ByWatermark side) b) ≡ chainIndices (ByWatermark side) (takenOn side price b)
+          → unelected price w (chainIndices (ByWatermark side) b) ≡ chainIndices (ByWatermark side)
+          (takenOn side price b)
 
       none : (b : Book) → Valid b → Fits b → electedIn side price b ≡ [] → Left b
       none b v f e h =

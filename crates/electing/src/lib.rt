@@ -1,5 +1,5 @@
-// The elected stops of a side leave a store. They are the first of its stop chain; one pass takes them out of its watermark chain, then
-// each goes from the head of the stop chain to that of the free chain.
+// The elected stops of a side leave a store. They are the first of its stop chain; one pass takes them out of its
+// watermark chain, then each goes from the head of the stop chain to that of the free chain.
 use book::Chain;
 use pricelevel::Price;
 use pricelevel::Side;
@@ -66,7 +66,8 @@ fn drop_elected(s: &mut [u64], n: u64, c: Chain, price: Price)
     }
 }
 
-// Takes the elected from the head of a side's stop chain, one after the other, makes their records free and answers how many.
+// Takes the elected from the head of a side's stop chain, one after the other, makes their records free and answers how
+// many.
 fn free_elected(s: &mut [u64], n: u64, side: Side, price: Price) -> u64
     requires { ⌜ ((b : Book) × (r : List ℕ) × (count : ℕ) × Dropped side price n (now s) count b r) ⌝ }
     ensures { λ m. ⌜ ((b : Book) (r : List ℕ) (count : ℕ) → Dropped side price n (now (s .entry)) count b r

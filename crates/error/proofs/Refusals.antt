@@ -14,8 +14,10 @@ use Rattle.error.specs.declared.Verdict.the-variants.{Accepted, Refused}
 
 all : List Refusal
 all =
-    StoreNotWellFormed ∷ LayoutOutOfRange ∷ KillSwitchActive ∷ ZeroQuantity ∷ ZeroTrail ∷ StopBeyondWatermark ∷ StopWouldTrigger
-    ∷ DuplicateOrderId ∷ TrailOffTick ∷ NoFreeRecord ∷ SequenceExhausted ∷ OrderNotFound ∷ SamePrice ∷ ListTooShort ∷ InvalidScript
+    StoreNotWellFormed ∷ LayoutOutOfRange ∷ KillSwitchActive ∷ ZeroQuantity ∷ ZeroTrail ∷ StopBeyondWatermark
+    ∷ StopWouldTrigger
+    ∷ DuplicateOrderId ∷ TrailOffTick ∷ NoFreeRecord ∷ SequenceExhausted ∷ OrderNotFound ∷ SamePrice ∷ ListTooShort
+    ∷ InvalidScript
     ∷ PriceCountOutOfRange ∷ ZeroCollar ∷ CollarOffTick ∷ []
 
 pub numbered : ℕ → Refusal

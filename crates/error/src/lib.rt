@@ -1,5 +1,5 @@
-// The refusals of document 01, "The questions a call goes through". They stand for the Rust's OrderBookError; where that has
-// one error for several questions, each question has its own refusal here.
+// The refusals of document 01, "The questions a call goes through". They stand for the Rust's OrderBookError; where
+// that has one error for several questions, each question has its own refusal here.
 ghost use mathlib.Core.Path.{_≡_};
 ghost use Rattle.error.specs.Questions.{question, asked};
 ghost use Rattle.error.specs.Refusal.{refusalNumber};

@@ -1,5 +1,5 @@
-// The pass over a store of pending stops, from orderbook-rs's stop_orders.rs: its questions in their order, then the segments of its
-// queue. A refused call alters nothing.
+// The pass over a store of pending stops, from orderbook-rs's stop_orders.rs: its questions in their order, then the
+// segments of its queue. A refused call alters nothing.
 use book::ElectedWords;
 use book::PassAnswer;
 use book::PassCounts;
@@ -57,8 +57,9 @@ pub fn pass_over(
     }
 }
 
-// A pass: segments from a queue, at first this one, until it or the store is empty. Each elected stop whose child identity is free uses the next
-// script entry. Refused: the store is not well formed (1); the list is shorter than the pending count (14); the script is not well formed (15).
+// A pass: segments from a queue, at first this one, until it or the store is empty. Each elected stop whose child
+// identity is free uses the next script entry. Refused: the store is not well formed (1); the list is shorter than the
+// pending count (14); the script is not well formed (15).
 pub fn evaluate_pending_stops(
     s: &mut [u64],
     settings: Settings,

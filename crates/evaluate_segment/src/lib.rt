@@ -1,5 +1,5 @@
-// The segment over a store of pending stops, from orderbook-rs's stop_orders.rs: its questions in their order, then a point at each end.
-// A refused call alters nothing.
+// The segment over a store of pending stops, from orderbook-rs's stop_orders.rs: its questions in their order, then a
+// point at each end. A refused call alters nothing.
 use book::Counts;
 use book::ElectedWords;
 use book::EvaluationAnswer;
@@ -33,8 +33,9 @@ fn ask_segment(s: &[u64], elected: usize, moved: usize) -> Verdict
         .ask(moved >= 2 * count, Refusal::ListTooShort)
 }
 
-// A segment: a point at its first print, and one at its last if that differs. The elected and the moved are written from the start of
-// the lists; later entries stay. Refused: the store is not well formed (1); a list is shorter than the pending count asks (14).
+// A segment: a point at its first print, and one at its last if that differs. The elected and the moved are written
+// from the start of the lists; later entries stay. Refused: the store is not well formed (1); a list is shorter than
+// the pending count asks (14).
 pub fn segment(
     s: &mut [u64],
     settings: Settings,

@@ -1,5 +1,5 @@
-// The walk over a store of pending stops, print by print: its questions in their order, then a point at each price. A refused call alters
-// nothing.
+// The walk over a store of pending stops, print by print: its questions in their order, then a point at each price. A
+// refused call alters nothing.
 use book::Counts;
 use book::ElectedWords;
 use book::EvaluationAnswer;
@@ -35,8 +35,9 @@ fn ask_walk(s: &[u64], prices: &[u64], elected: usize) -> Verdict
         .ask(prices.len() <= MOST_PRICES, Refusal::PriceCountOutOfRange)
 }
 
-// A walk: a point at each price in turn. The elected are written from the start of the list; later entries stay. Refused: the store is not
-// well formed (1); the list is shorter than the pending count (14); not 1 to 4,096 prices (16).
+// A walk: a point at each price in turn. The elected are written from the start of the list; later entries stay.
+// Refused: the store is not well formed (1); the list is shorter than the pending count (14); not 1 to 4,096 prices
+// (16).
 pub fn walk(
     s: &mut [u64],
     settings: Settings,

@@ -33,8 +33,10 @@ pub from-start : (k n : ℕ) → k ≡ n → k ≡ 0 + n
 from-start k n e = omega (arith, e)
 
 -- an evaluation with room for the elected: its fills are written from the start of the list, and then completed
-module _ (s : Settings) (w : List ℕ) (elected : List (List ℕ)) (ps : List Price) (o : Evaluated) (points : PointsAt (s .kill) ps (bookOf w) o)
-    (room : pendingCount (bookOf w .slots) ≤ length elected) (filled : List (List ℕ)) (h : filled ≡ sets elected 0 (map fillWords (o .fills))) where
+module _ (s : Settings) (w : List ℕ) (elected : List (List ℕ)) (ps : List Price) (o : Evaluated)
+    (points : PointsAt (s .kill) ps (bookOf w) o)
+    (room : pendingCount (bookOf w .slots) ≤ length elected) (filled : List (List ℕ))
+    (h : filled ≡ sets elected 0 (map fillWords (o .fills))) where
   few : length (o .fills) ≤ length elected
   few = omega (arith, points-count (s .kill) points, room)
 
@@ -76,9 +78,11 @@ module _ (s : Settings) (prints : PrintSegment) (w : List ℕ) (elected moved : 
   module _ (h : none ≡ firstNo (segmentQuestions w (length elected) (length moved))) (l1 : List (List ℕ))
       (filled : l1 ≡ sets elected 0 (map fillWords (after .fills))) where
     pub segment-within : (k : ℕ) → k ≡ length (after .fills) → k ≤ length l1
-    segment-within = fills-within s w elected _ after (segment-points (s .kill) prints (bookOf w)) (segment-room w _ _ h .0) l1 filled
+    segment-within = fills-within s w elected _ after (segment-points (s .kill) prints (bookOf w))
+        (segment-room w _ _ h .0) l1 filled
 
-    pub segment-done : (c : Counts) (u : List ℕ) (l2 m : List (List ℕ)) → c .moves ≡ length (after .moved) → c .elected ≡ length (after .fills)
+    pub segment-done : (c : Counts) (u : List ℕ) (l2 m : List (List ℕ)) → c .moves ≡ length (after .moved)
+        → c .elected ≡ length (after .fills)
         → m ≡ sets moved 0 (map movedWords (after .moved)) → Stored (getD w 0 0) u (after .book) (beyond w)
         → l2 ≡ sets l1 0 (map (λ f. electedWords (electedEntry s (after .book) f)) (after .fills))
         → (accepted c ≡ outcome .answer) × ((u ≡ outcome .words) × ((l2 ≡ elected-after) × (m ≡ moved-after)))
@@ -88,8 +92,10 @@ module _ (s : Settings) (prints : PrintSegment) (w : List ℕ) (elected moved : 
       (
         rw (← h) (stored-words w u (after .book) st),
         (
-          rw (← h) (completed s w elected _ after (segment-points (s .kill) prints (bookOf w)) (segment-room w _ _ h .0) l1 filled l2 h2),
-          rw (← h) (hm ∙ sets-written (map movedWords (after .moved)) moved (rw length-map (omega (arith, segment-moves (s .kill) prints (bookOf w), segment-room w _ _ h .1)))),
+          rw (← h) (completed s w elected _ after (segment-points (s .kill) prints (bookOf w))
+              (segment-room w _ _ h .0) l1 filled l2 h2),
+          rw (← h) (hm ∙ sets-written (map movedWords (after .moved)) moved
+              (rw length-map (omega (arith, segment-moves (s .kill) prints (bookOf w), segment-room w _ _ h .1)))),
         ),
       ),
     )
@@ -112,11 +118,14 @@ module _ (s : Settings) (prev : LastPrice) (prices : List Price) (w : List ℕ) 
   unfolding walkCall decide written
   walk-refused k h = (rw (← h), (rw (← h), rw (← h)))
 
-  module _ (h : none ≡ firstNo (walkQuestions prices w (length elected))) (l1 : List (List ℕ)) (filled : l1 ≡ sets elected 0 (map fillWords (walked .fills))) where
+  module _ (h : none ≡ firstNo (walkQuestions prices w (length elected))) (l1 : List (List ℕ))
+      (filled : l1 ≡ sets elected 0 (map fillWords (walked .fills))) where
     pub walk-within : (k : ℕ) → k ≡ length (walked .fills) → k ≤ length l1
-    walk-within = fills-within s w elected _ walked (walk-points (s .kill) prev prices (bookOf w)) (walk-room prices w _ h) l1 filled
+    walk-within = fills-within s w elected _ walked (walk-points (s .kill) prev prices (bookOf w))
+        (walk-room prices w _ h) l1 filled
 
-    pub walk-done : (c : Counts) (u : List ℕ) (l2 : List (List ℕ)) → c .moves ≡ length (walked .moved) → c .elected ≡ length (walked .fills)
+    pub walk-done : (c : Counts) (u : List ℕ) (l2 : List (List ℕ)) → c .moves ≡ length (walked .moved)
+        → c .elected ≡ length (walked .fills)
         → Stored (getD w 0 0) u (walked .book) (beyond w)
         → l2 ≡ sets l1 0 (map (λ f. electedWords (electedEntry s (walked .book) f)) (walked .fills))
         → (accepted c ≡ outcome-walk .answer) × ((u ≡ outcome-walk .words) × (l2 ≡ walk-after))
@@ -125,6 +134,7 @@ module _ (s : Settings) (prev : LastPrice) (prices : List Price) (w : List ℕ) 
       rw (← h, ← moves, ← count),
       (
         rw (← h) (stored-words w u (walked .book) st),
-        rw (← h) (completed s w elected _ walked (walk-points (s .kill) prev prices (bookOf w)) (walk-room prices w _ h) l1 filled l2 h2),
+        rw (← h) (completed s w elected _ walked (walk-points (s .kill) prev prices (bookOf w))
+            (walk-room prices w _ h) l1 filled l2 h2),
       ),
     )

@@ -33,7 +33,8 @@ use Rattle.evaluation.proofs.Questions.{count-word}
 ------------------------------------------------------------------------
 -- The questions, from what the code asked
 
-pub pass-unformed : (script w : List ℕ) (elected : ℕ) → wellFormed w ≡ false → some 1 ≡ firstNo (passQuestions script w elected)
+pub pass-unformed : (script w : List ℕ) (elected : ℕ) → wellFormed w ≡ false
+    → some 1 ≡ firstNo (passQuestions script w elected)
 unfolding firstNo passQuestions
 pass-unformed script w elected e = rw e
 
@@ -42,7 +43,8 @@ module _ (script w : List ℕ) (elected : ℕ) (e : wellFormed w ≡ true) where
   unfolding firstNo passQuestions
   pass-few-elected h = rw (e, lt-leb (pendingIn w) elected (rw (← count-word w e) h))
 
-  pub pass-no-script : getD w 1 0 ≤ elected → scriptFormed script ≡ false → some 15 ≡ firstNo (passQuestions script w elected)
+  pub pass-no-script : getD w 1 0 ≤ elected → scriptFormed script ≡ false
+      → some 15 ≡ firstNo (passQuestions script w elected)
   unfolding firstNo passQuestions
   pass-no-script h g = rw (e, le-leb (pendingIn w) elected (rw (← count-word w e) h), g)
 
@@ -75,28 +77,37 @@ module _ (s : Settings) (script : List ℕ) (prints : PrintSegment) (w : List �
 
   -- the call answers, and leaves of store and list
   abbrev pub PassLeaves : PassOutcome → PassCounts → List ℕ → List (List ℕ) → Type 0
-  PassLeaves o c u l = (accepted c ≡ o .answer) × ((u ≡ o .words) × (l ≡ written (map electedWords (o .elected)) elected))
+  PassLeaves o c u l = (accepted c ≡ o .answer)
+      × ((u ≡ o .words) × (l ≡ written (map electedWords (o .elected)) elected))
 
-  pub passed-done : firstNo (passQuestions script w (length elected)) ≡ none → (c : PassCounts) (u : List ℕ) (l : List (List ℕ))
+  pub passed-done : firstNo (passQuestions script w (length elected)) ≡ none
+      → (c : PassCounts) (u : List ℕ) (l : List (List ℕ))
       → c .moves ≡ after .moves → c .elected ≡ length (after .entries) → c .used ≡ after .used
       → l ≡ sets elected 0 (map electedWords (after .entries)) → Stored (getD w 0 0) u (after .book) (beyond w)
       → PassLeaves (passed s script prints w) c u l
   unfolding passed
   passed-done h c u l moves count used list st =
-      let few : length (after .entries) ≤ length elected = omega (arith, pass-count s script prints (bookOf w), pass-elected script w (length elected) h) in (
+      let few : length (after .entries) ≤ length elected =
+      omega (arith, pass-count s script prints (bookOf w), pass-elected script w (length elected) h) in (
         rw (← moves, ← count, ← used),
-        (stored-words w u (after .book) st, list ∙ sets-written (map electedWords (after .entries)) elected (rw length-map few)),
+        (
+          stored-words w u (after .book) st,
+          list
+              ∙ sets-written (map electedWords (after .entries)) elected (rw length-map few),
+        ),
       )
 
   abbrev whole : PassOutcome
   whole = passCall s script prints w (length elected)
 
   pub pass-refused : (k : ℕ) → some k ≡ firstNo (passQuestions script w (length elected))
-      → (refused k ≡ whole .answer) × ((w ≡ whole .words) × (elected ≡ written (map electedWords (whole .elected)) elected))
+      → (refused k ≡ whole .answer)
+      × ((w ≡ whole .words) × (elected ≡ written (map electedWords (whole .elected)) elected))
   unfolding passCall decide written
   pass-refused k h = (rw (← h), (rw (← h), rw (← h)))
 
-  pub pass-accepted-as : none ≡ firstNo (passQuestions script w (length elected)) → (c : PassCounts) (u : List ℕ) (l : List (List ℕ))
+  pub pass-accepted-as : none ≡ firstNo (passQuestions script w (length elected))
+      → (c : PassCounts) (u : List ℕ) (l : List (List ℕ))
       → PassLeaves (passed s script prints w) c u l → PassLeaves whole c u l
   unfolding passCall decide
   pass-accepted-as h c u l d = rw (← h) d
@@ -109,12 +120,15 @@ choose a true p e = rw e
 choose a false p e = rw e
 
 -- what is taken of a path where stops are pending
-pub taken-segment : (pending : ℕ) (path : PrintPath) (trade : LastPrice) (x : Option PrintSegment) → (pending ≡ 0 → ⊥) → x ≡ take path trade .segment
+pub taken-segment : (pending : ℕ) (path : PrintPath) (trade : LastPrice) (x : Option PrintSegment) → (pending ≡ 0 → ⊥)
+    → x ≡ take path trade .segment
     → x ≡ cond (eqb pending 0 || not (path .«open»)) none (some (segmentOf path trade))
 unfolding take
-taken-segment pending path trade x h e = e ∙ choose (eqb pending 0) (path .«open») (some (segmentOf path trade)) (ne-eqb pending 0 h)
+taken-segment pending path trade x h e =
+    e ∙ choose (eqb pending 0) (path .«open») (some (segmentOf path trade)) (ne-eqb pending 0 h)
 
-module _ (s : Settings) (script : List ℕ) (trade : LastPrice) (w : List ℕ) (elected : List (List ℕ)) (path : PrintPath) where
+module _ (s : Settings) (script : List ℕ) (trade : LastPrice) (w : List ℕ) (elected : List (List ℕ))
+    (path : PrintPath) where
   abbrev run : RunOutcome
   run = runCall s script trade w (length elected) path
 
@@ -139,16 +153,19 @@ module _ (s : Settings) (script : List ℕ) (trade : LastPrice) (w : List ℕ) (
     unfolding runCall runOver decide written
     run-idle e =
         cases idle (λ q. (rw (← h, q), (rw (← h, q), (rw (← h, q), rw (← h, q)))))
-        (λ q. let f : some (segmentOf path trade) ≡ none = sym (rw q at next-is) ∙ e in let z : _≡_ {A = ℕ} 0 1 = cc in absurd (omega arith))
+        (λ q. let f : some (segmentOf path trade) ≡ none = sym (rw q at next-is)
+        ∙ e in let z : _≡_ {A = ℕ} 0 1 = cc in absurd (omega arith))
 
-    pub run-taken : (prints : PrintSegment) → next ≡ some prints → (c : PassCounts) (u : List ℕ) (l : List (List ℕ)) (closing : PrintPath)
+    pub run-taken : (prints : PrintSegment) → next ≡ some prints
+        → (c : PassCounts) (u : List ℕ) (l : List (List ℕ)) (closing : PrintPath)
         → PassLeaves s script prints w elected (passed s script prints w) c u l
         → closing ≡ closed path
         → (accepted c ≡ run .answer) × ((closing ≡ run .path) × ((u ≡ run .words) × (l ≡ run-after)))
     unfolding runCall runOver decide written
     run-taken prints e c u l closing d p =
         cases idle
-        (λ q. let f : none ≡ some prints = sym (rw q at next-is) ∙ e in let z : _≡_ {A = ℕ} 0 1 = cc in absurd (omega arith))
+        (λ q. let f : none ≡ some prints = sym (rw q at next-is)
+        ∙ e in let z : _≡_ {A = ℕ} 0 1 = cc in absurd (omega arith))
         (λ q.
         let f : some (segmentOf path trade) ≡ some prints = sym (rw q at next-is) ∙ e in
         let g : prints ≡ segmentOf path trade = cc in

@@ -14,14 +14,19 @@ use Rattle.stop_terms.specs.declared.StopTerms.{StopTerms}
 
 -- Side, stop, watermark, trail.
 unfoldable pub terms : Side → ℕ → ℕ → ℕ → StopTerms
-terms side stop watermark trail = record { side = side; stop = record { 0 = stop }; watermark = record { 0 = watermark }; trail = trail }
+terms side stop watermark trail = record {
+  side = side;
+  stop = record { 0 = stop };
+  watermark = record { 0 = watermark };
+  trail = trail;
+}
 
 unfoldable pub number : Bool → ℕ
 number false = 0
 number true = 1
 
--- An answer as numbers: the stop and the watermark of terms; 1 or 0 of a test; a limit; 1 where sells come first at a segment's first
--- point.
+-- An answer as numbers: the stop and the watermark of terms; 1 or 0 of a test; a limit; 1 where sells come first at a
+-- segment's first point.
 pub data Question : Type 0 where
   trailed : StopTerms → ℕ → Question
   elected : StopTerms → ℕ → Question
@@ -29,10 +34,14 @@ pub data Question : Type 0 where
   sellsLead : LastPrice → ℕ → ℕ → Question
 
 unfoldable pub answer : Question → List ℕ
-answer (trailed t price) = trailedAt t (record { 0 = price }) .stop .0 ∷ trailedAt t (record { 0 = price }) .watermark .0 ∷ []
+answer (trailed t price) = trailedAt t (record {
+  0 = price;
+}) .stop .0 ∷ trailedAt t (record { 0 = price }) .watermark .0 ∷ []
 answer (elected t price) = number (electedAt t (record { 0 = price })) ∷ []
 answer (limit side stop collar) = limitFor collar side stop ∷ []
-answer (sellsLead prev first last) = number (sellsFirst (fallsTo (record { 0 = first }) (record { 0 = last })) prev (record { 0 = first })) ∷ []
+answer (sellsLead prev first last) = number (sellsFirst (fallsTo (record {
+  0 = first;
+}) (record { 0 = last })) prev (record { 0 = first })) ∷ []
 
 pub record Example : Type 0 where
   pub question : Question

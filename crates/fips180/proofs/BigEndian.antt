@@ -14,4 +14,5 @@ pub bigEndian-at : (k x j : ℕ) → j < k → getD (bigEndian k x) j 0 ≡ x / 
 unfolding bigEndian
 bigEndian-at zero x j h = absurd (omega arith)
 bigEndian-at (suc k) x zero h = ap (λ (n : ℕ). x / 2 ^ (8 * n) % 256) (omega arith)
-bigEndian-at (suc k) x (suc j) h = bigEndian-at k x j (omega arith) ∙ ap (λ (n : ℕ). x / 2 ^ (8 * n) % 256) (omega arith)
+bigEndian-at (suc k) x (suc j) h =
+    bigEndian-at k x j (omega arith) ∙ ap (λ (n : ℕ). x / 2 ^ (8 * n) % 256) (omega arith)

@@ -104,4 +104,5 @@ module _ (h t : List ℕ) (i : ℕ) where
 
   pub at-size : lengthAt (length h + length t) ≤ i → i < 64 * blockCount (length h + length t)
       → 8 * (length h + length t) / 2 ^ (56 - 8 * (i - lengthAt (length h + length t))) % 256 ≡ getD (pad (h ++ t)) i 0
-  at-size g l = rw (← length-append h t) (sym (pad-size (h ++ t) i (omega (arith, length-append h t)) (omega (arith, length-append h t))))
+  at-size g l = rw (← length-append h t)
+      (sym (pad-size (h ++ t) i (omega (arith, length-append h t)) (omega (arith, length-append h t))))

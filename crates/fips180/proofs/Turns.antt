@@ -20,9 +20,15 @@ nextWord-take p i w t =
     cases (ltb t 16) (λ (e : ltb t 16 ≡ true). simp e)
     (λ (e : ltb t 16 ≡ false).
     let g : 16 ≤ t = ltb-false t 16 e in
-    rw (getD-take t w (t - 3) 0 (omega arith), getD-take t w (t - 8) 0 (omega arith), getD-take t w (t - 14) 0 (omega arith), getD-take t w (t - 16) 0 (omega arith)))
+    rw (
+      getD-take t w (t - 3) 0 (omega arith),
+      getD-take t w (t - 8) 0 (omega arith),
+      getD-take t w (t - 14) 0 (omega arith),
+      getD-take t w (t - 16) 0 (omega arith),
+    ))
 
-pub schedule-turn : (p : List ℕ) (i : ℕ) (w : List ℕ) (t x : ℕ) → t < length w → take t w ≡ schedule p i t → x ≡ nextWord p i w t
+pub schedule-turn : (p : List ℕ) (i : ℕ) (w : List ℕ) (t x : ℕ) → t < length w → take t w ≡ schedule p i t
+    → x ≡ nextWord p i w t
     → take (t + 1) (set w t x) ≡ schedule p i (t + 1)
 unfolding schedule
 schedule-turn p i w t x h e n =
@@ -31,7 +37,8 @@ schedule-turn p i w t x h e n =
     ∙ ap (λ (y : ℕ). take t w ++ (y ∷ [])) (n ∙ sym (nextWord-take p i w t))
     ∙ ap (λ (l : List ℕ). l ++ (nextWord p i l t ∷ [])) e)
 
-pub steps-turn : (w : List ℕ) (t : ℕ) (s r q : State) → r ≡ steps w t s → q ≡ step t (getD w t 0) r → q ≡ steps w (t + 1) s
+pub steps-turn : (w : List ℕ) (t : ℕ) (s r q : State) → r ≡ steps w t s → q ≡ step t (getD w t 0) r
+    → q ≡ steps w (t + 1) s
 unfolding steps
 steps-turn w t s r q e n = rw add-one (n ∙ ap (step t (getD w t 0)) e)
 

@@ -38,8 +38,8 @@ bigEndian (suc k) x = x / 2 ^ (8 * k) % 256 ∷ bigEndian k x
 unfoldable pub zeros : ℕ → ℕ
 zeros n = (119 - n % 64) % 64
 
--- §5.1.1: the padded message. FIPS 180-4 defines it, and the digest, for messages of fewer than 2^64 bits (§6.1).
--- For longer ones, which no slice that fits a machine's memory is, the definition goes on with the length's low 64 bits.
+-- §5.1.1: the padded message. FIPS 180-4 defines it, and the digest, for messages of fewer than 2^64 bits (§6.1). For
+-- longer ones, which no slice that fits a machine's memory is, the definition goes on with the length's low 64 bits.
 unfoldable pub pad : List ℕ → List ℕ
 pad m = m ++ (0x80 ∷ (replicate (zeros (length m)) 0 ++ bigEndian 8 (8 * length m)))
 

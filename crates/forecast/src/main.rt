@@ -1,5 +1,5 @@
-// The program `forecast` of document 01: reads a store, a price count and the prices from standard input, and writes what a walk
-// along the prices elects.
+// The program `forecast` of document 01: reads a store, a price count and the prices from standard input, and writes
+// what a walk along the prices elects.
 use forecasting::decisive;
 use forecasting::print_forecast;
 ghost use Prim.Native.Nat.{_+_, _≤_, _^_};
@@ -21,8 +21,8 @@ fn skip() -> usize
     io::read_full(0, &mut buffer)
 }
 
-// How many bytes of standard input are left to its end. Each turn reads one at least, and the count ends at 2^62, which no input
-// reaches.
+// How many bytes of standard input are left to its end. Each turn reads one at least, and the count ends at 2^62, which
+// no input reaches.
 fn remaining() -> usize
     ensures { λ r. ⌜ r ≤ 2 ^ 62 + 65536 ⌝ }
 {
@@ -37,7 +37,8 @@ fn remaining() -> usize
     total
 }
 
-// An input that fills the buffer is too long, and what is left of it matters only for the question whether its bytes are words.
+// An input that fills the buffer is too long, and what is left of it matters only for the question whether its bytes
+// are words.
 fn main() {
     let mut bytes = buffer();
     let mut total = io::read_full(0, &mut bytes);

@@ -1,4 +1,5 @@
--- The buckets of keys: a stop that is apart from those of its bucket is apart from all before it, and the tables that chain a bucket.
+-- The buckets of keys: a stop that is apart from those of its bucket is apart from all before it, and the tables that
+-- chain a bucket.
 use Prim.Native.Nat.{ℕ, zero, suc, _+_, _-_, _%_, _^_, _≤_, _<_}
 use native.Mathlib.Omega.{arith}
 use mathlib.Core.Path.{_≡_, refl, sym, ap, _∙_}
@@ -45,7 +46,8 @@ module _ (P : ℕ → Bool) where
   lastOf-no (suc i) h e = let z : suc i - 1 ≡ i = omega arith in rw (e, z)
 
   -- a test that all others pass
-  pub downFrom-last : (Q : ℕ → Bool) → ((j : ℕ) → P j ≡ false → Q j ≡ true) → (m : ℕ) → downFrom m Q ≡ downFrom (lastOf P m) Q
+  pub downFrom-last : (Q : ℕ → Bool) → ((j : ℕ) → P j ≡ false → Q j ≡ true) → (m : ℕ)
+      → downFrom m Q ≡ downFrom (lastOf P m) Q
   unfolding lastOf downFrom
   downFrom-last Q h zero = refl
   downFrom-last Q h (suc m) = cases (P (suc m)) (λ e. rw e) (λ e. rw (e, h (suc m) e) (downFrom-last Q h m))
@@ -75,7 +77,8 @@ module _ (key : Key) (w : List ℕ) where
   stop-inBucket h i f e = rw (ne-eqb (recordWord w i 7) 0 f, eq-eqb (bucketAt key w i) h e)
 
   other-inBucket : (h i : ℕ) → (Stop w i → bucketAt key w i ≡ h → ⊥) → inBucket key w h i ≡ false
-  other-inBucket h i n = cases (inBucket key w h i) (λ e. let p = inBucket-stop h i e in absurd (n (p .0) (p .1))) (λ e. e)
+  other-inBucket h i n =
+      cases (inBucket key w h i) (λ e. let p = inBucket-stop h i e in absurd (n (p .0) (p .1))) (λ e. e)
 
 -- all that is asked of a bucket
 sameKey-bucket : (key : Key) (w : List ℕ) (i j : ℕ) → sameKey key w i j ≡ true → bucketAt key w i ≡ bucketAt key w j
@@ -93,7 +96,9 @@ module _ (key : Key) (w : List ℕ) (i : ℕ) (stop : Stop w i) where
           (λ q. absurd (false≢true (sym e ∙ stop-inBucket key w (bucketAt key w i) j f (sameKey-bucket key w j i q))))
           (λ q. q)
 
-  bucket-tested : (m : ℕ) → downFrom m (λ j. apart key w j i) ≡ downFrom (lastOf (inBucket key w (bucketAt key w i)) m) (λ j. apart key w j i)
+  bucket-tested : (m : ℕ)
+      → downFrom m (λ j. apart key w j i) ≡ downFrom (lastOf (inBucket key w (bucketAt key w i)) m)
+      (λ j. apart key w j i)
   bucket-tested = downFrom-last (inBucket key w (bucketAt key w i)) (λ j. apart key w j i) bucket-apart
 
 ------------------------------------------------------------------------
@@ -166,12 +171,14 @@ tables-none key w = record {
   chained = λ j low high. absurd (omega arith);
 }
 
-module _ (key : Key) (w : List ℕ) (i : ℕ) (heads nexts : List ℕ) (t : Tables key w (i - 1) heads nexts) (low : 1 ≤ i) where
+module _ (key : Key) (w : List ℕ) (i : ℕ) (heads nexts : List ℕ) (t : Tables key w (i - 1) heads nexts)
+    (low : 1 ≤ i) where
   pub tables-vacant : recordWord w i 7 ≡ 0 → Tables key w i heads nexts
   tables-vacant e = record {
     heads-length = t .heads-length;
     nexts-length = t .nexts-length;
-    lasts = λ h less. t .lasts h less ∙ sym (lastOf-no (inBucket key w h) i low (other-inBucket key w h i (λ f. absurd (f e))));
+    lasts = λ h less. t .lasts h less
+        ∙ sym (lastOf-no (inBucket key w h) i low (other-inBucket key w h i (λ f. absurd (f e))));
     chained = λ j least most f. cases (eqb j i)
         (λ q. let z : j ≡ i = eqb-true j i q in absurd (f (rw z e)))
         (λ q. t .chained j least (omega (arith, eqb-false j i q)) f);
@@ -192,6 +199,8 @@ module _ (key : Key) (w : List ℕ) (i : ℕ) (heads nexts : List ℕ) (t : Tabl
           (λ q. getD-set-other heads b h i 0 (λ e. eqb-false b h q (sym e)) ∙ t .lasts h most
           ∙ sym (lastOf-no (inBucket key w h) i low (other-inBucket key w h i (λ f e. eqb-false b h q (is ∙ e)))));
       chained = λ j least most f. cases (eqb j i)
-          (λ q. let z : j ≡ i = eqb-true j i q in rw (z, getD-set-same nexts i (getD heads b 0) 0 (omega (arith, t .nexts-length))) tables-last)
-          (λ q. getD-set-other nexts i j (getD heads b 0) 0 (eqb-false j i q) ∙ t .chained j least (omega (arith, eqb-false j i q)) f);
+          (λ q. let z : j ≡ i = eqb-true j i q in
+          rw (z, getD-set-same nexts i (getD heads b 0) 0 (omega (arith, t .nexts-length))) tables-last)
+          (λ q. getD-set-other nexts i j (getD heads b 0) 0 (eqb-false j i q)
+          ∙ t .chained j least (omega (arith, eqb-false j i q)) f);
     }

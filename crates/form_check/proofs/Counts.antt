@@ -32,7 +32,8 @@ module _ (g : ℕ) (w : List ℕ) (whole i m c : ℕ) (inv : c + groupCount g (s
       go zero h e = omega arith
       go (suc m) h e = absurd (omega arith)
 
-  count-step : 0 < m → c + (cond (eqb (slotGroup (slotAt w i)) g) 1 0 + groupCount g (slotsAt w (i + 1) (m - 1))) ≡ whole
+  count-step : 0 < m → c +
+      (cond (eqb (slotGroup (slotAt w i)) g) 1 0 + groupCount g (slotsAt w (i + 1) (m - 1))) ≡ whole
   unfolding slotsAt groupCount
   count-step h = go m h inv
     where
@@ -52,7 +53,8 @@ module _ (g : ℕ) (w : List ℕ) (whole i m c : ℕ) (inv : c + groupCount g (s
     pub count-turn : (d : ℕ) → c < i → ((h ≡ g) × (d ≡ c + 1)) ⊎ ((h ≡ g → ⊥) × (d ≡ c))
         → (d < i + 1) × (d + groupCount g (slotsAt w (i + 1) (m - 1)) ≡ whole)
     count-turn d few came =
-        ⊎-elim (λ x. (omega (arith, x .1), rw (x .1) (count-yes (x .0)))) (λ x. (omega (arith, x .1), rw (x .1) (count-no (x .0)))) came
+        ⊎-elim (λ x. (omega (arith, x .1), rw (x .1) (count-yes (x .0))))
+        (λ x. (omega (arith, x .1), rw (x .1) (count-no (x .0)))) came
 
 ------------------------------------------------------------------------
 -- The sides and the vacant records
@@ -64,7 +66,8 @@ groupCount-sides (vacant ∷ ss) = omega (arith, groupCount-sides ss)
 groupCount-sides (held t ∷ ss) = go (sideOf t) (groupCount-sides ss)
   where
     go : (d : Side) → groupCount 1 ss + groupCount 0 ss ≡ pendingCount ss
-        → (cond (eqb (sideNumber d) 1) 1 0 + groupCount 1 ss) + (cond (eqb (sideNumber d) 0) 1 0 + groupCount 0 ss) ≡ suc (pendingCount ss)
+        → (cond (eqb (sideNumber d) 1) 1 0 + groupCount 1 ss) +
+        (cond (eqb (sideNumber d) 0) 1 0 + groupCount 0 ss) ≡ suc (pendingCount ss)
     go Sell e = omega arith
     go Buy e = omega arith
 
@@ -74,7 +77,8 @@ groupCount-vacants i [] = refl
 groupCount-vacants i (vacant ∷ ss) = omega (arith, groupCount-vacants (suc i) ss)
 groupCount-vacants i (held t ∷ ss) = go (sideOf t) (groupCount-vacants (suc i) ss)
   where
-    go : (d : Side) → groupCount 2 ss ≡ length (vacantIndices (suc i) ss) → cond (eqb (sideNumber d) 2) 1 0 + groupCount 2 ss ≡ length (vacantIndices (suc i) ss)
+    go : (d : Side) → groupCount 2 ss ≡ length (vacantIndices (suc i) ss)
+        → cond (eqb (sideNumber d) 2) 1 0 + groupCount 2 ss ≡ length (vacantIndices (suc i) ss)
     go Sell e = omega arith
     go Buy e = omega arith
 

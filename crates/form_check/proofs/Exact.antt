@@ -80,7 +80,8 @@ formed-parts w e =
     Is : StoreChain → Type 0
     Is k = chainFormed k w (getD w 0 0) ≡ true
 
-    each : Is (Ordered (ByStop Sell)) → Is (Ordered (ByWatermark Sell)) → Is (Ordered (ByStop Buy)) → Is (Ordered (ByWatermark Buy)) → Is Free → (k : StoreChain) → Is k
+    each : Is (Ordered (ByStop Sell)) → Is (Ordered (ByWatermark Sell)) → Is (Ordered (ByStop Buy))
+        → Is (Ordered (ByWatermark Buy)) → Is Free → (k : StoreChain) → Is k
     each a b c d f (Ordered (ByStop Sell)) = a
     each a b c d f (Ordered (ByWatermark Sell)) = b
     each a b c d f (Ordered (ByStop Buy)) = c
@@ -128,13 +129,16 @@ module _ (w : List ℕ) (words : (p : ℕ) → IsWord (getD w p 0)) where
     linked Free = free .linked
 
     -- each record of a chain's group is linked as in the book
-    link-word : (i : ℕ) → 1 ≤ i → i ≤ getD w 0 0 → (k : StoreChain) → InGroup k w i → recordWord w i (nextOf k) ≡ nextIn (chainsOf (bookOf w) k) i
+    link-word : (i : ℕ) → 1 ≤ i → i ≤ getD w 0 0 → (k : StoreChain) → InGroup k w i
+        → recordWord w i (nextOf k) ≡ nextIn (chainsOf (bookOf w) k) i
     unfolding bookOf
     link-word i low high (Ordered c) g =
         let l = ordered c (slotsIn w) in
-        let names = linked-names (getD w 0 0) w (linkOf c) (headOf c) l (formed-linked w (getD w 0 0) (f .differ) fits c (f .chains (Ordered c))) in
+        let names = linked-names (getD w 0 0) w (linkOf c)
+        (headOf c) l (formed-linked w (getD w 0 0) (f .differ) fits c (f .chains (Ordered c))) in
         rw (chain-list c)
-        (ordered-all c (slotsIn w) (Names (getD w 0 0) w (linkOf c) l) names i (group-member w (getD w 0 0) i low high c g))
+        (ordered-all c (slotsIn w)
+        (Names (getD w 0 0) w (linkOf c) l) names i (group-member w (getD w 0 0) i low high c g))
     link-word i low high Free g =
         let l = bookOf w .free in
         let P = Names (getD w 0 0) w (nextOf Free) l in
@@ -146,12 +150,30 @@ module _ (w : List ℕ) (words : (p : ℕ) → IsWord (getD w p 0)) where
     head-word k = linked-head (getD w 0 0) w (nextOf k) (startOf k) (chainsOf (bookOf w) k) (linked k)
 
     form : (i : ℕ) → 1 ≤ i → i ≤ getD w 0 0 → RecordForm w i
-    form i low high = record-form w i (rising-at (λ j. recordFormed w j ≡ true) 1 (getD w 0 0) (f .records) i low (omega arith))
+    form i low high = record-form w i
+        (rising-at (λ j. recordFormed w j ≡ true) 1 (getD w 0 0) (f .records) i low (omega arith))
 
     headers : All (λ k. getD w k 0 ≡ getD (header (bookOf w)) k 0) (rising 0 headerLength)
     unfolding bookOf header rising
-    headers =
-        (sym (slotsAt-length w 1 (getD w 0 0)), (f .count, (refl, (refl, (head-word (Ordered (ByStop Sell)), (head-word (Ordered (ByWatermark Sell)), (head-word (Ordered (ByStop Buy)), (head-word (Ordered (ByWatermark Buy)), (head-word Free, tt)))))))))
+    headers = (
+      sym (slotsAt-length w 1 (getD w 0 0)),
+      (
+        f .count,
+        (
+          refl,
+          (
+            refl,
+            (
+              head-word (Ordered (ByStop Sell)),
+              (
+                head-word (Ordered (ByWatermark Sell)),
+                (head-word (Ordered (ByStop Buy)), (head-word (Ordered (ByWatermark Buy)), (head-word Free, tt))),
+              ),
+            ),
+          ),
+        ),
+      ),
+    )
 
     records : (i k : ℕ) → 1 ≤ i → i ≤ length (bookOf w .slots) → k < recordLength
         → recordWord w i k ≡ getD (recordWords (bookOf w) i (getD (bookOf w .slots) (i - 1) vacant)) k 0
@@ -160,14 +182,16 @@ module _ (w : List ℕ) (words : (p : ℕ) → IsWord (getD w p 0)) where
         let most : i ≤ getD w 0 0 = rw slotsAt-length at high in
         let words = form-words w i (bookOf w) (form i low most) (link-word i low most) in
         rw (slotsAt-record w (getD w 0 0) i low most)
-        (rising-at (λ k. recordWord w i k ≡ getD (recordWords (bookOf w) i (slotAt w i)) k 0) 0 recordLength words k (omega arith) (omega arith))
+        (rising-at (λ k. recordWord w i k ≡ getD (recordWords (bookOf w) i (slotAt w i)) k 0) 0 recordLength words k
+        (omega arith) (omega arith))
 
     book-valid : Valid (bookOf w)
     unfolding bookOf
     book-valid = record {
       some-records = rw slotsAt-length (f .some-records);
       few-records = rw slotsAt-length (f .few-records);
-      sound = slotsAt-all (λ s. soundStop (getD w 2 0) (getD w 3 0) s ≡ true) w 1 (getD w 0 0) (λ j low high. form-sound w j (form j low (omega arith)));
+      sound = slotsAt-all (λ s. soundStop (getD w 2 0) (getD w 3 0) s ≡ true) w 1 (getD w 0 0)
+          (λ j low high. form-sound w j (form j low (omega arith)));
       differ = f .differ;
       free-vacant = free .all-vacant;
     }
@@ -177,14 +201,16 @@ module _ (w : List ℕ) (words : (p : ℕ) → IsWord (getD w p 0)) where
         let size = bookOf-slots-length w in
         rw size at
         (layout-taken w (bookOf w)
-        (λ k h. rising-at (λ k. getD w k 0 ≡ getD (header (bookOf w)) k 0) 0 headerLength headers k (omega arith) (omega arith)) records
+        (λ k h. rising-at (λ k. getD w k 0 ≡ getD (header (bookOf w)) k 0) 0 headerLength headers k (omega arith)
+        (omega arith)) records
         (rw size (f .room)))
 
     formed-wellFormed : WellFormed w
     formed-wellFormed = record {
       room = f .room;
       are-words = getD-all IsWord (take (storeLength (getD w 0 0)) w) 0
-          (λ i h. let l : i < storeLength (getD w 0 0) = rw (length-take-le (storeLength (getD w 0 0)) w (f .room)) at h in rw getD-take (words i));
+          (λ i h. let l : i < storeLength (getD w 0 0) = rw
+          (length-take-le (storeLength (getD w 0 0)) w (f .room)) at h in rw getD-take (words i));
       book-valid = book-valid;
       laid-out = laid-out;
     }
@@ -194,9 +220,11 @@ module _ (w : List ℕ) (words : (p : ℕ) → IsWord (getD w p 0)) where
 
   module _ (e : wellFormed w ≡ true) where
     header-word : (k : ℕ) → k < headerLength → getD w k 0 ≡ getD (header (bookOf w)) k 0
-    header-word k h = ap (λ (x : List ℕ). getD x k 0) (wellFormed-layout w e) ∙ layout-header (bookOf w) (drop (storeLength (getD w 0 0)) w) k h
+    header-word k h = ap (λ (x : List ℕ). getD x k 0) (wellFormed-layout w e)
+        ∙ layout-header (bookOf w) (drop (storeLength (getD w 0 0)) w) k h
 
-    record-word : (i k : ℕ) → 1 ≤ i → i ≤ getD w 0 0 → k < recordLength → recordWord w i k ≡ getD (recordWords (bookOf w) i (slotAt w i)) k 0
+    record-word : (i k : ℕ) → 1 ≤ i → i ≤ getD w 0 0 → k < recordLength
+        → recordWord w i k ≡ getD (recordWords (bookOf w) i (slotAt w i)) k 0
     unfolding bookOf
     record-word i k low high h =
         rw (← slotsAt-record w (getD w 0 0) i low high)
@@ -206,8 +234,10 @@ module _ (w : List ℕ) (words : (p : ℕ) → IsWord (getD w p 0)) where
     record-back : (i : ℕ) → 1 ≤ i → i ≤ getD w 0 0 → RecordForm w i
     unfolding bookOf soundStop
     record-back i low high =
-        let sound = all-getD (λ s. soundStop (getD w 2 0) (getD w 3 0) s ≡ true) (slotsIn w) (i - 1) vacant refl (wellFormed-valid w e .sound) in
-        words-form w i (bookOf w) (rw (slotsAt-record w (getD w 0 0) i low high) at sound) (λ k h. record-word i k low high h)
+        let sound = all-getD (λ s. soundStop (getD w 2 0) (getD w 3 0) s ≡ true) (slotsIn w)
+        (i - 1) vacant refl (wellFormed-valid w e .sound) in
+        words-form w i (bookOf w) (rw (slotsAt-record w (getD w 0 0) i low high) at sound)
+        (λ k h. record-word i k low high h)
 
     count-word : getD w 1 0 ≡ pendingCount (slotsIn w)
     unfolding bookOf header
@@ -216,8 +246,10 @@ module _ (w : List ℕ) (words : (p : ℕ) → IsWord (getD w p 0)) where
     chain-back : (k : StoreChain) → chainFormed k w (getD w 0 0) ≡ true
     unfolding bookOf
     chain-back (Ordered c) =
-        linked-formed-chain w (getD w 0 0) (wellFormed-valid w e .differ) fits c (rw (chain-list c) at (wellFormed-linked w e (Ordered c)))
-    chain-back Free = free-formed w (getD w 0 0) (bookOf w .free) (wellFormed-linked w e Free) (wellFormed-valid w e .free-vacant)
+        linked-formed-chain w (getD w 0 0)
+        (wellFormed-valid w e .differ) fits c (rw (chain-list c) at (wellFormed-linked w e (Ordered c)))
+    chain-back Free = free-formed w (getD w 0 0) (bookOf w .free) (wellFormed-linked w e Free)
+        (wellFormed-valid w e .free-vacant)
 
     wellFormed-formed : Formed w
     unfolding bookOf
@@ -227,7 +259,8 @@ module _ (w : List ℕ) (words : (p : ℕ) → IsWord (getD w p 0)) where
           some-records = rw slotsAt-length at (v .some-records);
           few-records = rw slotsAt-length at (v .few-records);
           room = wellFormed-parts w e .room;
-          records = rising-all (λ i. recordFormed w i ≡ true) 1 (getD w 0 0) (λ i low high. form-record w i (record-back i low (omega arith)));
+          records = rising-all (λ i. recordFormed w i ≡ true) 1 (getD w 0 0)
+              (λ i low high. form-record w i (record-back i low (omega arith)));
           count = count-word;
           chains = chain-back;
           differ = v .differ;

@@ -1,4 +1,5 @@
--- The records that a chain is to hold: those of its group are the members of a side, or the vacant ones, and there are as many.
+-- The records that a chain is to hold: those of its group are the members of a side, or the vacant ones, and there are
+-- as many.
 use Prim.Native.Nat.{ℕ, suc, _+_, _-_, _*_, _^_, _≤_, _<_}
 use native.Mathlib.Omega.{arith}
 use mathlib.Core.Path.{_≡_, refl, sym, ap, _∙_}
@@ -94,17 +95,20 @@ module _ (w : List ℕ) (n : ℕ) (c : Chain) (j : ℕ) (m : Member (chainSide c
 -- How many there are
 
 members-length : (side : Side) (i : ℕ) (s : Slot) (ss : List Slot)
-    → length (members side i (s ∷ ss)) ≡ cond (eqb (slotGroup s) (sideNumber side)) 1 0 + length (members side (suc i) ss)
+    → length (members side i (s ∷ ss)) ≡ cond (eqb (slotGroup s) (sideNumber side)) 1 0 + length
+    (members side (suc i) ss)
 unfolding members gather withIndex pendingOn ofSide indices
 members-length side i vacant ss = go side
   where
-    go : (a : Side) → length (members side (suc i) ss) ≡ cond (eqb 2 (sideNumber a)) 1 0 + length (members side (suc i) ss)
+    go : (a : Side) → length (members side (suc i) ss) ≡ cond (eqb 2 (sideNumber a)) 1 0 + length
+        (members side (suc i) ss)
     go Buy = omega arith
     go Sell = omega arith
 members-length side i (held t) ss = go side (sideOf t)
   where
     go : (a b : Side)
-        → length (indices (withIndex i (ofSide a b t) (gather (pendingOn side) (suc i) ss))) ≡ cond (eqb (sideNumber b) (sideNumber a)) 1 0 + length (members side (suc i) ss)
+        → length (indices (withIndex i (ofSide a b t) (gather (pendingOn side) (suc i) ss))) ≡ cond
+        (eqb (sideNumber b) (sideNumber a)) 1 0 + length (members side (suc i) ss)
     go Buy Buy = omega arith
     go Buy Sell = omega arith
     go Sell Buy = omega arith
@@ -114,7 +118,8 @@ members-none : (side : Side) (i : ℕ) → length (members side i []) ≡ 0
 unfolding members gather indices
 members-none side i = refl
 
-pub groupCount-members : (side : Side) (i : ℕ) (ss : List Slot) → groupCount (sideNumber side) ss ≡ length (members side i ss)
+pub groupCount-members : (side : Side) (i : ℕ) (ss : List Slot)
+    → groupCount (sideNumber side) ss ≡ length (members side i ss)
 unfolding groupCount
 groupCount-members side i [] = sym (members-none side i)
 groupCount-members side i (s ∷ ss) = rw (groupCount-members side (suc i) ss) (sym (members-length side i s ss))
@@ -126,12 +131,14 @@ pub vacantIndices-ascending : (i : ℕ) (ss : List Slot) → Ascending itself (v
 unfolding vacantIndices
 vacantIndices-ascending i [] = tt
 vacantIndices-ascending i (vacant ∷ ss) = (
-  all-map {P = VacantFrom (suc i) ss} {Q = λ j. i < j} (λ j h. h .low) (vacantIndices (suc i) ss) (vacantIndices-vacant (suc i) ss),
+  all-map {P = VacantFrom (suc i) ss} {Q = λ j. i < j} (λ j h. h .low) (vacantIndices (suc i) ss)
+      (vacantIndices-vacant (suc i) ss),
   vacantIndices-ascending (suc i) ss,
 )
 vacantIndices-ascending i (held t ∷ ss) = vacantIndices-ascending (suc i) ss
 
-vacantFrom-later : (i : ℕ) (s : Slot) (ss : List Slot) (j : ℕ) → j ≢ i → VacantFrom i (s ∷ ss) j → VacantFrom (suc i) ss j
+vacantFrom-later : (i : ℕ) (s : Slot) (ss : List Slot) (j : ℕ) → j ≢ i → VacantFrom i (s ∷ ss) j
+    → VacantFrom (suc i) ss j
 vacantFrom-later i s ss j n v =
     let e : j - i ≡ suc (j - suc i) = omega (arith, v .low) in
     record { low = omega (arith, v .low); high = omega (arith, v .high); is-vacant = rw e at (v .is-vacant) }
@@ -144,7 +151,8 @@ held-not-vacant i t ss j v e =
     omega arith
 
 -- what holds of all their indices holds of the index of a vacant record
-pub vacant-member : (P : ℕ → Type 0) (i : ℕ) (ss : List Slot) → All P (vacantIndices i ss) → (j : ℕ) → VacantFrom i ss j → P j
+pub vacant-member : (P : ℕ → Type 0) (i : ℕ) (ss : List Slot) → All P (vacantIndices i ss) → (j : ℕ)
+    → VacantFrom i ss j → P j
 unfolding vacantIndices
 vacant-member P i [] h j v = absurd (omega (arith, v .low, v .high))
 vacant-member P i (vacant ∷ ss) h j v = cases (eqb j i)
@@ -165,29 +173,39 @@ rank-seq (ByStop Sell) t u f g e = low-part (top - stopOf t) (seqOf t) (top - st
 rank-seq (ByStop Buy) t u f g e = low-part (stopOf t) (seqOf t) (stopOf u) (seqOf u) (f .seq) (g .seq) e
 rank-seq (ByWatermark Sell) t u f g e = low-part (watermarkOf t) (seqOf t) (watermarkOf u) (seqOf u) (f .seq) (g .seq) e
 rank-seq (ByWatermark Buy) t u f g e =
-    let q = low-part (top - watermarkOf t) (top - seqOf t) (top - watermarkOf u) (top - seqOf u) (omega (arith, f .seq)) (omega (arith, g .seq)) e in
+    let q = low-part (top - watermarkOf t) (top - seqOf t) (top - watermarkOf u) (top - seqOf u)
+    (omega (arith, f .seq)) (omega (arith, g .seq)) e in
     omega (arith, f .seq, g .seq)
 
-seqs-differ : (ss : List Slot) (k m : ℕ) (t u : StopEntry) → allDiffer ss ≡ true → k ≢ m → getD ss k vacant ≡ held t → getD ss m vacant ≡ held u
+seqs-differ : (ss : List Slot) (k m : ℕ) (t u : StopEntry) → allDiffer ss ≡ true → k ≢ m → getD ss k vacant ≡ held t
+    → getD ss m vacant ≡ held u
     → seqOf t ≡ seqOf u → ⊥
 seqs-differ ss k m t u e n et eu =
-    let d = all-getD (SlotsDiffer (getD ss k vacant)) (set ss k vacant) m vacant (slotsDiffer-vacant (getD ss k vacant)) (allDiffer-others ss k e) in
+    let d = all-getD (SlotsDiffer (getD ss k vacant))
+    (set ss k vacant) m vacant (slotsDiffer-vacant (getD ss k vacant)) (allDiffer-others ss k e) in
     let d' : SlotsDiffer (held t) (held u) = rw (getD-set-other ss k m vacant vacant (λ q. n (sym q)), et, eu) at d in
     differs-parts t u d' .1
 
-ranks-apart : (rk : ℕ → ℕ) (P : ℕ → Type 0) → ((i j : ℕ) → P i → P j → i ≢ j → Apart rk i j) → (l : List ℕ) → All P l → Distinct l → Pairwise (Apart rk) l
+ranks-apart : (rk : ℕ → ℕ) (P : ℕ → Type 0) → ((i j : ℕ) → P i → P j → i ≢ j → Apart rk i j) → (l : List ℕ) → All P l
+    → Distinct l → Pairwise (Apart rk) l
 ranks-apart rk P f [] h d = tt
-ranks-apart rk P f (i ∷ l) h d =
-    (all-map-both {P = P} {Q = λ j. i ≢ j} {R = Apart rk i} (λ j p n. f i j (h .0) p n) l (h .1) (d .0), ranks-apart rk P f l (h .1) (d .1))
+ranks-apart rk P f (i ∷ l) h d = (
+  all-map-both {P = P} {Q = λ j. i ≢ j} {R = Apart rk i} (λ j p n. f i j (h .0) p n) l (h .1) (d .0),
+  ranks-apart rk P f l (h .1) (d .1),
+)
 
-pub members-ranks : (c : Chain) (ss : List Slot) → allDiffer ss ≡ true → All SlotFits ss → Pairwise (Apart (rankIn c ss)) (members (chainSide c) 1 ss)
+pub members-ranks : (c : Chain) (ss : List Slot) → allDiffer ss ≡ true → All SlotFits ss
+    → Pairwise (Apart (rankIn c ss)) (members (chainSide c) 1 ss)
 members-ranks c ss e f =
-    ranks-apart (rankIn c ss) (Member (chainSide c) ss) apart (members (chainSide c) 1 ss) (members-held (chainSide c) ss) (members-distinct (chainSide c) 1 ss)
+    ranks-apart (rankIn c ss) (Member (chainSide c) ss) apart (members (chainSide c) 1 ss)
+    (members-held (chainSide c) ss) (members-distinct (chainSide c) 1 ss)
   where
     fits : (i : ℕ) (m : Member (chainSide c) ss i) → StopFits (m .entry)
     fits i m = rw (m .there) at (all-getD SlotFits ss (i - 1) vacant tt f)
 
-    apart : (i j : ℕ) → Member (chainSide c) ss i → Member (chainSide c) ss j → i ≢ j → rankIn c ss i ≡ rankIn c ss j → ⊥
+    apart : (i j : ℕ) → Member (chainSide c) ss i → Member (chainSide c) ss j → i ≢ j → rankIn c ss i ≡ rankIn c ss j
+        → ⊥
     apart i j m k n q =
-        seqs-differ ss (i - 1) (j - 1) (m .entry) (k .entry) e (λ x. n (omega (arith, m .from, k .from))) (m .there) (k .there)
+        seqs-differ ss (i - 1) (j - 1) (m .entry) (k .entry) e (λ x. n (omega (arith, m .from, k .from))) (m .there)
+        (k .there)
         (rank-seq c (m .entry) (k .entry) (fits i m) (fits j k) (rw (m .there, k .there) at q))

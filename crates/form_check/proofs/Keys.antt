@@ -60,7 +60,8 @@ by-slot w i f g = cases (eqb (recordWord w i 7) 0) (λ e. f (eqb-true _ _ e)) (�
 module _ (w : List ℕ) (i j : ℕ) where
   slots-apart : SlotsDiffer (slotAt w i) (slotAt w j) → (key : Key) → apart key w i j ≡ true
   unfolding sameKey entryAt
-  slots-apart d key = by-slot w i (apart-first key w i j) (λ f. by-slot w j (apart-second key w i j) (λ g. apart-stops key w i j f g ∙ told f g key))
+  slots-apart d key = by-slot w i (apart-first key w i j)
+      (λ f. by-slot w j (apart-second key w i j) (λ g. apart-stops key w i j f g ∙ told f g key))
     where
       told : Stop w i → Stop w j → (key : Key) → not (sameKey key w i j) ≡ true
       told f g Sequence =
@@ -85,7 +86,8 @@ module _ (w : List ℕ) (i j : ℕ) where
 abbrev Pairs : (ℕ → ℕ → Type 0) → ℕ → ℕ → Type 0
 Pairs P i m = (a b : ℕ) → i ≤ a → a < b → b < m → P a b
 
-allDiffer-pairs : (w : List ℕ) (i k : ℕ) → allDiffer (slotsAt w i k) ≡ true → Pairs (λ a b. SlotsDiffer (slotAt w a) (slotAt w b)) i (i + k)
+allDiffer-pairs : (w : List ℕ) (i k : ℕ) → allDiffer (slotsAt w i k) ≡ true
+    → Pairs (λ a b. SlotsDiffer (slotAt w a) (slotAt w b)) i (i + k)
 unfolding slotsAt
 allDiffer-pairs w i zero e a b low less high = absurd (omega arith)
 allDiffer-pairs w i (suc k) e a b low less high =
@@ -94,7 +96,8 @@ allDiffer-pairs w i (suc k) e a b low less high =
     (λ q. let z : a ≡ i = omega (arith, ltb-false i a q) in
     rw z (slotsAt-each (SlotsDiffer (slotAt w i)) w (suc i) k (p .0) b (omega arith) (omega arith)))
 
-pairs-allDiffer : (w : List ℕ) (i k : ℕ) → Pairs (λ a b. SlotsDiffer (slotAt w a) (slotAt w b)) i (i + k) → allDiffer (slotsAt w i k) ≡ true
+pairs-allDiffer : (w : List ℕ) (i k : ℕ) → Pairs (λ a b. SlotsDiffer (slotAt w a) (slotAt w b)) i (i + k)
+    → allDiffer (slotsAt w i k) ≡ true
 unfolding slotsAt allDiffer
 pairs-allDiffer w i zero h = refl
 pairs-allDiffer w i (suc k) h =
@@ -113,7 +116,8 @@ downFrom-at P (suc m) e j low high =
 downFrom-of : (P : ℕ → Bool) (m : ℕ) → ((j : ℕ) → 1 ≤ j → j ≤ m → P j ≡ true) → downFrom m P ≡ true
 unfolding downFrom
 downFrom-of P zero h = refl
-downFrom-of P (suc m) h = rw (h (suc m) (omega arith) (omega arith), downFrom-of P m (λ j low high. h j low (omega arith)))
+downFrom-of P (suc m) h =
+    rw (h (suc m) (omega arith) (omega arith), downFrom-of P m (λ j low high. h j low (omega arith)))
 
 -- a vacant record has no key
 pub newAt-vacant : (key : Key) (w : List ℕ) (i : ℕ) → recordWord w i 7 ≡ 0 → newAt key w i ≡ true
@@ -124,7 +128,8 @@ module _ (key : Key) (w : List ℕ) (n : ℕ) where
   keys-pairs : keysDiffer key w n ≡ true → Pairs (λ a b. apart key w a b ≡ true) 1 (1 + n)
   unfolding keysDiffer newAt
   keys-pairs e a b low less high =
-      let new = rising-at (λ j. newAt key w j ≡ true) 1 n (every-all (newAt key w) (rising 1 n) e) b (omega arith) high in
+      let new = rising-at (λ j. newAt key w j ≡ true) 1 n (every-all (newAt key w) (rising 1 n) e) b
+      (omega arith) high in
       downFrom-at (λ x. apart key w x b) (b - 1) new a low (omega arith)
 
   pairs-keys : Pairs (λ a b. apart key w a b ≡ true) 1 (1 + n) → keysDiffer key w n ≡ true
@@ -135,7 +140,8 @@ module _ (key : Key) (w : List ℕ) (n : ℕ) where
       (λ j low high. downFrom-of (λ x. apart key w x j) (j - 1) (λ x least most. h x j least (omega arith) high)))
 
 -- the pairs are tested key by key
-pub allDiffer-keys : (w : List ℕ) (n : ℕ) → (keysDiffer Sequence w n && keysDiffer Identity w n) ≡ allDiffer (slotsAt w 1 n)
+pub allDiffer-keys : (w : List ℕ) (n : ℕ)
+    → (keysDiffer Sequence w n && keysDiffer Identity w n) ≡ allDiffer (slotsAt w 1 n)
 allDiffer-keys w n =
     bool-same _ _
     (λ e.
@@ -146,4 +152,5 @@ allDiffer-keys w n =
     (λ e. rw (back e Sequence, back e Identity))
   where
     back : allDiffer (slotsAt w 1 n) ≡ true → (key : Key) → keysDiffer key w n ≡ true
-    back e key = pairs-keys key w n (λ a b low less high. slots-apart w a b (allDiffer-pairs w 1 n e a b low less high) key)
+    back e key = pairs-keys key w n
+        (λ a b low less high. slots-apart w a b (allDiffer-pairs w 1 n e a b low less high) key)

@@ -40,14 +40,16 @@ module _ (w : List ℕ) (i : ℕ) where
 
   zero-blank : (k : ℕ) → (k ≢ nextByStop → Zero k) → blankAt w i k ≡ true
   unfolding blankAt isZero
-  zero-blank k z = cases (eqb k nextByStop) (λ e. rw e) (λ e. rw (e, eq-eqb (recordWord w i k) 0 (z (eqb-false k nextByStop e))))
+  zero-blank k z = cases (eqb k nextByStop) (λ e. rw e)
+      (λ e. rw (e, eq-eqb (recordWord w i k) 0 (z (eqb-false k nextByStop e))))
 
   pub record-form : recordFormed w i ≡ true → RecordForm
   unfolding recordFormed blank isZero
   record-form e = cases (eqb (recordWord w i 7) 0)
       (λ q.
       let h = every-all (blankAt w i) (rising 0 recordLength) (rw q at e) in
-      free (eqb-true _ _ q) (λ k l. blank-zero k (rising-at (λ k. blankAt w i k ≡ true) 0 recordLength h k (omega arith) (omega arith))))
+      free (eqb-true _ _ q)
+      (λ k l. blank-zero k (rising-at (λ k. blankAt w i k ≡ true) 0 recordLength h k (omega arith) (omega arith))))
       (λ q.
       let kind = and-parts (leb (recordWord w i 0) 2) _ (rw q at e) in
       let side = and-parts (leb (recordWord w i 3) 1) _ (kind .1) in
@@ -59,7 +61,8 @@ module _ (w : List ℕ) (i : ℕ) where
       rw (
         eq-eqb (recordWord w i 7) 0 q,
         all-every (blankAt w i) (rising 0 recordLength)
-            (rising-all (λ k. blankAt w i k ≡ true) 0 recordLength (λ k low high. zero-blank k (zeros k (omega arith)))),
+            (rising-all (λ k. blankAt w i k ≡ true) 0 recordLength
+            (λ k low high. zero-blank k (zeros k (omega arith)))),
       )
   form-record (pending q kind side sound) =
       rw (ne-eqb (recordWord w i 7) 0 q, le-leb (recordWord w i 0) 2 kind, le-leb (recordWord w i 3) 1 side, sound)
@@ -73,7 +76,8 @@ module _ (w : List ℕ) (i : ℕ) where
   -- Its words are those of the book that links it as they do
 
   module _ (b : Book) where
-    pub form-words : RecordForm → ((k : StoreChain) → InGroup k w i → recordWord w i (nextOf k) ≡ nextIn (chainsOf b k) i)
+    pub form-words : RecordForm
+        → ((k : StoreChain) → InGroup k w i → recordWord w i (nextOf k) ≡ nextIn (chainsOf b k) i)
         → All (λ k. recordWord w i k ≡ getD (recordWords b i (slotAt w i)) k 0) (rising 0 recordLength)
     unfolding recordWords dataWords afterByStop afterByWatermark withLinks rising entryAt
     form-words (free q zeros) links =
@@ -114,7 +118,19 @@ module _ (w : List ℕ) (i : ℕ) where
         let s = slotAt-held w i q in
         let stop = links (Ordered (ByStop (sideOf (entryAt w i)))) (rw s) in
         let watermark = links (Ordered (ByWatermark (sideOf (entryAt w i)))) (rw s) in
-        rw s (sym (kindNumber-of _ kind), (refl, (refl, (sym (sideNumber-from _ side), (refl, (refl, (refl, (refl, (refl, (stop, (watermark, tt)))))))))))
+        rw s (
+          sym (kindNumber-of _ kind),
+          (
+            refl,
+            (
+              refl,
+              (
+                sym (sideNumber-from _ side),
+                (refl, (refl, (refl, (refl, (refl, (stop, (watermark, tt))))))),
+              ),
+            ),
+          ),
+        )
 
     blank-word : (k : ℕ) → k < recordLength → k ≢ nextByStop → getD (recordWords b i vacant) k 0 ≡ 0
     unfolding recordWords dataWords afterByStop afterByWatermark withLinks rising
@@ -157,11 +173,13 @@ module _ (w : List ℕ) (i : ℕ) where
     words-form sound words = cases (eqb (recordWord w i 7) 0)
         (λ e.
         let s = slotAt-vacant w i (eqb-true _ _ e) in
-        let word : (k : ℕ) → k < recordLength → recordWord w i k ≡ getD (recordWords b i vacant) k 0 = λ k h. rw s at (words k h) in
+        let word : (k : ℕ) → k < recordLength → recordWord w i k ≡ getD (recordWords b i vacant) k 0 =
+        λ k h. rw s at (words k h) in
         free (eqb-true _ _ e) (λ k h n. word k h ∙ blank-word k h n))
         (λ e.
         let s = slotAt-held w i (eqb-false _ _ e) in
-        let word : (k : ℕ) → k < recordLength → recordWord w i k ≡ getD (recordWords b i (held (entryAt w i))) k 0 = λ k h. rw s at (words k h) in
+        let word : (k : ℕ) → k < recordLength → recordWord w i k ≡ getD (recordWords b i (held (entryAt w i))) k 0 =
+        λ k h. rw s at (words k h) in
         pending (eqb-false _ _ e)
         (omega (arith, word 0 (omega arith), kindNumber-most (kindOf (recordWord w i 0))))
         (omega (arith, word 3 (omega arith), sideNumber-most (sideFrom (recordWord w i 3))))

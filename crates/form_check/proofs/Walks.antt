@@ -47,7 +47,8 @@ module _ (k : StoreChain) (w : List ℕ) (n left p q : ℕ) (whole : Bool) (inv 
           ≡ (leb 1 (getD w p 0)
           && (leb (getD w p 0) n
           && (eqb (slotGroup (slotAt w (getD w p 0))) (groupOf k)
-          && (mayFollow k w q (getD w p 0) && walkFormed k w n (left - 1) (cell (getD w p 0) (nextOf k)) (getD w p 0)))))
+          && (mayFollow k w q (getD w p 0) && walkFormed k w n (left - 1) (cell (getD w p 0) (nextOf k))
+          (getD w p 0)))))
       go zero h = absurd (omega arith)
       go (suc left) h = let e : suc left - 1 ≡ left = omega arith in rw e
 
@@ -64,7 +65,8 @@ nextOf-record (Ordered (ByWatermark side)) = omega arith
 nextOf-record Free = omega arith
 
 -- a walk that takes as many steps as there are records of the group is the whole test of the chain
-pub chain-counted : (k : StoreChain) (w : List ℕ) (n count : ℕ) (r : Bool) → count ≡ groupCount (groupOf k) (slotsAt w 1 n)
+pub chain-counted : (k : StoreChain) (w : List ℕ) (n count : ℕ) (r : Bool)
+    → count ≡ groupCount (groupOf k) (slotsAt w 1 n)
     → r ≡ walkFormed k w n count (startOf k) 0 → r ≡ chainFormed k w n
 unfolding chainFormed
 chain-counted k w n count r e h = rw (← e) h
@@ -91,7 +93,13 @@ module _ (k : StoreChain) (w : List ℕ) (n : ℕ) where
 
   pub formed-walked : (f p q : ℕ) → walkFormed k w n f p q ≡ true → Walked f p q
   unfolding walkFormed
-  formed-walked zero p q e = record { list = []; linked = eqb-true (getD w p 0) 0 e; long = refl; in-group = tt; steps = tt }
+  formed-walked zero p q e = record {
+    list = [];
+    linked = eqb-true (getD w p 0) 0 e;
+    long = refl;
+    in-group = tt;
+    steps = tt;
+  }
   formed-walked (suc f) p q e =
       let j = getD w p 0 in
       let some = and-parts (leb 1 j) _ e in
@@ -107,7 +115,8 @@ module _ (k : StoreChain) (w : List ℕ) (n : ℕ) where
         steps = (step .0, rest .steps);
       }
 
-  pub linked-formed : (l : List ℕ) (p q : ℕ) → Linked n w (nextOf k) p l → All (InGroup k w) l → Steps k w q l → walkFormed k w n (length l) p q ≡ true
+  pub linked-formed : (l : List ℕ) (p q : ℕ) → Linked n w (nextOf k) p l → All (InGroup k w) l → Steps k w q l
+      → walkFormed k w n (length l) p q ≡ true
   unfolding walkFormed
   linked-formed [] p q c g s = eq-eqb (getD w p 0) 0 c
   linked-formed (j ∷ l) p q c g s =
@@ -125,7 +134,8 @@ module _ (c : Chain) (w : List ℕ) where
   above-step : (q j : ℕ) → (1 ≤ q → rankAt c w q < rankAt c w j) → mayFollow (Ordered c) w q j ≡ true
   unfolding mayFollow
   above-step zero j h = rw (eq-eqb 0 0 refl)
-  above-step (suc q) j h = rw (ne-eqb (suc q) 0 (omega arith)) (lt-ltb (rankAt c w (suc q)) (rankAt c w j) (h (omega arith)))
+  above-step (suc q) j h =
+      rw (ne-eqb (suc q) 0 (omega arith)) (lt-ltb (rankAt c w (suc q)) (rankAt c w j) (h (omega arith)))
 
   record Above (q : ℕ) (l : List ℕ) : Type 0 where
     above : 1 ≤ q → All (λ j. rankAt c w q < rankAt c w j) l
@@ -138,15 +148,19 @@ module _ (c : Chain) (w : List ℕ) where
       let all = rest .above (r .0) in
       record {
         above = λ h.
-            let u = step-above q i h (s .0) in
-            (u, all-map {P = λ j. rankAt c w i < rankAt c w j} {Q = λ j. rankAt c w q < rankAt c w j} (λ j v. omega arith) l all);
+            let u = step-above q i h (s .0) in (
+              u,
+              all-map {P = λ j. rankAt c w i < rankAt c w j} {Q = λ j. rankAt c w q < rankAt c w j}
+                  (λ j v. omega arith) l all,
+            );
         ascending = (all, rest .ascending);
       }
 
   pub steps-ascending : (l : List ℕ) → All (λ j. 1 ≤ j) l → Steps (Ordered c) w 0 l → Ascending (rankAt c w) l
   steps-ascending l r s = steps-above 0 l r s .ascending
 
-  pub ascending-steps : (q : ℕ) (l : List ℕ) → (1 ≤ q → All (λ j. rankAt c w q < rankAt c w j) l) → Ascending (rankAt c w) l → Steps (Ordered c) w q l
+  pub ascending-steps : (q : ℕ) (l : List ℕ) → (1 ≤ q → All (λ j. rankAt c w q < rankAt c w j) l)
+      → Ascending (rankAt c w) l → Steps (Ordered c) w q l
   ascending-steps q [] h a = tt
   ascending-steps q (i ∷ l) h a = (above-step q i (λ u. h u .0), ascending-steps i l (λ u. a .0) (a .1))
 

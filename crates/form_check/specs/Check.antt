@@ -1,5 +1,5 @@
--- What the form check computes, test by test: document 01, The store. Each record by itself, the count, a walk along each of the five
--- chains, and the pairs of records.
+-- What the form check computes, test by test: document 01, The store. Each record by itself, the count, a walk along
+-- each of the five chains, and the pairs of records.
 use Prim.Native.Nat.{ℕ, zero, suc, _+_}
 use mathlib.Core.Path.{_≡_}
 use mathlib.Core.Bool.{Bool, true, cond, _&&_, _||_}
@@ -55,8 +55,8 @@ unfoldable pub mayFollow : StoreChain → List ℕ → ℕ → ℕ → Bool
 mayFollow (Ordered c) w q j = eqb q 0 || ltb (rankAt c w q) (rankAt c w j)
 mayFollow Free w q j = true
 
--- the word at p names the first of so many records and no more, each in range and of the chain's group, and each may follow the one
--- before it; q came last
+-- the word at p names the first of so many records and no more, each in range and of the chain's group, and each may
+-- follow the one before it; q came last
 unfoldable pub walkFormed : StoreChain → List ℕ → ℕ → ℕ → ℕ → ℕ → Bool
 walkFormed k w n zero p q = eqb (getD w p 0) 0
 walkFormed k w n (suc left) p q =
@@ -75,7 +75,8 @@ sideFormed side w n = chainFormed (Ordered (ByStop side)) w n && chainFormed (Or
 -- the count is right, and so are the five chains
 unfoldable pub chainsFormed : List ℕ → ℕ → Bool
 chainsFormed w n =
-    eqb (getD w 1 0) (pendingCount (slotsAt w 1 n)) && (sideFormed Sell w n && (sideFormed Buy w n && chainFormed Free w n))
+    eqb (getD w 1 0) (pendingCount (slotsAt w 1 n)) &&
+    (sideFormed Sell w n && (sideFormed Buy w n && chainFormed Free w n))
 
 ------------------------------------------------------------------------
 -- All of it
@@ -86,4 +87,5 @@ formed w =
     && (leb 1 (getD w 0 0)
     && (leb (getD w 0 0) mostRecords
     && (leb (storeLength (getD w 0 0)) (length w)
-    && (every (recordFormed w) (rising 1 (getD w 0 0)) && (chainsFormed w (getD w 0 0) && allDiffer (slotsAt w 1 (getD w 0 0)))))))
+    && (every (recordFormed w)
+    (rising 1 (getD w 0 0)) && (chainsFormed w (getD w 0 0) && allDiffer (slotsAt w 1 (getD w 0 0)))))))

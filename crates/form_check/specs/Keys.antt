@@ -1,4 +1,5 @@
--- Stops told apart by their keys, and the buckets that spare most comparisons: document 01, The store (identities differ; sequences differ).
+-- Stops told apart by their keys, and the buckets that spare most comparisons: document 01, The store (identities
+-- differ; sequences differ).
 use Prim.Native.Nat.{ℕ, zero, suc, _+_, _-_, _%_, _^_, _≤_}
 use mathlib.Core.Path.{_≡_}
 use mathlib.Core.Bool.{Bool, true, cond, not, _&&_, _||_}
@@ -60,4 +61,5 @@ lastOf P (suc m) = cond (P (suc m)) (suc m) (lastOf P m)
 
 -- each of the stops of records 1 to m leads to the one before it in its bucket
 abbrev pub Bucketed : Key → List ℕ → ℕ → List ℕ → Type 0
-Bucketed key w m nexts = (j : ℕ) → 1 ≤ j → j ≤ m → Stop w j → getD nexts j 0 ≡ lastOf (inBucket key w (bucketAt key w j)) (j - 1)
+Bucketed key w m nexts =
+    (j : ℕ) → 1 ≤ j → j ≤ m → Stop w j → getD nexts j 0 ≡ lastOf (inBucket key w (bucketAt key w j)) (j - 1)

@@ -1,4 +1,5 @@
-// Limits, collars and child identities for hosts: every argument as words. Asked before all else: is each value known (255)?
+// Limits, collars and child identities for hosts: every argument as words. Asked before all else: is each value known
+// (255)?
 use host_words::UNKNOWN;
 use pricelevel::Price;
 use stop_protection::NewProtection;

@@ -16,7 +16,8 @@ ghost use Rattle.listing.specs.Entries.{electedWords};
 ghost use Rattle.host_words.specs.Answers.{Told, passWords};
 ghost use Rattle.host_words.specs.ByWords.{passByWords, runByWords};
 
-// A pass, which lists the elected, and answers how many moves, elected and used script entries there were. Refused: 1, 14, 15.
+// A pass, which lists the elected, and answers how many moves, elected and used script entries there were. Refused: 1,
+// 14, 15.
 pub fn evaluate_pending_stops(
     s: &mut [u64],
     settings: &[u64; 4],
@@ -36,8 +37,8 @@ pub fn evaluate_pending_stops(
     of_pass(passed, answer)
 }
 
-// A run over path and store, up to the last trade: a pass over the path's segment, and the path reset; nothing where no stop is pending or the
-// path is closed. Refused: 255, 1, 14, 15.
+// A run over path and store, up to the last trade: a pass over the path's segment, and the path reset; nothing where no
+// stop is pending or the path is closed. Refused: 255, 1, 14, 15.
 pub fn run_stop_triggers(
     s: &mut [u64],
     path: &mut [u64; 4],

@@ -25,7 +25,8 @@ pub fn record_print(path: &mut [u64; 4], pending: u64, prev: &[u64; 2], price: u
     0
 }
 
-// Takes the path's segment, up to the last trade, closes the path, and answers the segment if there was one. Refused: 255.
+// Takes the path's segment, up to the last trade, closes the path, and answers the segment if there was one. Refused:
+// 255.
 pub fn take_path(path: &mut [u64; 4], trade: &[u64; 2], answer: &mut [u64; 5]) -> u64
     ensures { λ r. ⌜ (let o = takeByWords (now (trade .entry)) (now (path .entry)) in
         Told segmentWords (o .answer) (now (answer .entry)) r (now (answer .exit))

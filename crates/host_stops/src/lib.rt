@@ -11,8 +11,8 @@ ghost use mathlib.Core.Path.{_≡_};
 ghost use Rattle.host_words.specs.Answers.{Told, stopWords, foundWords};
 ghost use Rattle.host_words.specs.ByWords.{cancelByWords, updateByWords, findByWords};
 
-// Changes the pending stop of an identity, and answers it after the change, or before it where a quantity of zero cancels. Refused: 255, 1,
-// 12, 13, 4, 6, 7, 11.
+// Changes the pending stop of an identity, and answers it after the change, or before it where a quantity of zero
+// cancels. Refused: 255, 1, 12, 13, 4, 6, 7, 11.
 pub fn update_pending_stop(
     s: &mut [u64],
     id: &[u64; 3],

@@ -1,4 +1,5 @@
-// Layout, form check, totals and clear for hosts: every argument as words. Asked before all else: is the path's every flag known (255)?
+// Layout, form check, totals and clear for hosts: every argument as words. Asked before all else: is the path's every
+// flag known (255)?
 use host_words::UNKNOWN;
 use path_words::flag;
 use path_words::path_known;

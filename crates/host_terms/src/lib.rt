@@ -1,4 +1,5 @@
-// The terms of a stop and the preview for hosts: every argument as words. Asked before all else: is each value known (255)?
+// The terms of a stop and the preview for hosts: every argument as words. Asked before all else: is each value known
+// (255)?
 use host_words::UNKNOWN;
 use path_words::flag;
 use pricelevel::Price;
@@ -35,7 +36,8 @@ pub fn elected_by(terms: &[u64; 4], price: u64) -> u64
     flag(of.elected_by(Price(price)))
 }
 
-// The inconsistency of the terms: 0 for none, a trail of zero (5), a stop on the wrong side of its watermark (6); or 255.
+// The inconsistency of the terms: 0 for none, a trail of zero (5), a stop on the wrong side of its watermark (6); or
+// 255.
 pub fn inconsistency(terms: &[u64; 4]) -> u64
     ensures { λ r. ⌜ r ≡ inconsistencyByWords (now (terms .entry)) ⌝ }
 {

@@ -18,7 +18,8 @@ use Rattle.book.specs.Words.{sideFrom}
 use Rattle.book.specs.declared.OrderUpdate.the-variants.{Replace}
 use Rattle.host_words.specs.Arguments.{updateFrom, protectionOf}
 
-pub updateFrom-beyond : (change side : ℕ) (p : Price) (quantity : Quantity) → (change ≡ 0 → ⊥) → (change ≡ 1 → ⊥) → (change ≡ 2 → ⊥)
+pub updateFrom-beyond : (change side : ℕ) (p : Price) (quantity : Quantity) → (change ≡ 0 → ⊥) → (change ≡ 1 → ⊥)
+    → (change ≡ 2 → ⊥)
     → updateFrom change side p quantity ≡ Replace (sideFrom side) p quantity
 unfolding updateFrom
 updateFrom-beyond zero side p quantity a b c = absurd (a refl)
@@ -32,15 +33,18 @@ made-by : (zero? : Bool) (p q : StopProtection) → accepted p ≡ cond zero? (r
 made-by true p q e = let z : _≡_ {A = ℕ} 0 1 = cc in absurd (omega arith)
 made-by false p q e = cc
 
-none-by : (zero? : Bool) (k : ℕ) (q : StopProtection) → _≡_ {A = Answer StopProtection} (refused k) (cond zero? (refused 17) (accepted q))
+none-by : (zero? : Bool) (k : ℕ) (q : StopProtection)
+    → _≡_ {A = Answer StopProtection} (refused k) (cond zero? (refused 17) (accepted q))
     → _≡_ {A = Protection} protection.None (cond zero? protection.None (protection.Collar q))
 none-by true k q e = refl
 none-by false k q e = let z : _≡_ {A = ℕ} 0 1 = cc in absurd (omega arith)
 
-pub protection-made : (collar : ℕ) (p : StopProtection) → toldNew (Ok p) ≡ tryNew collar → protection.Collar p ≡ protectionOf collar
+pub protection-made : (collar : ℕ) (p : StopProtection) → toldNew (Ok p) ≡ tryNew collar
+    → protection.Collar p ≡ protectionOf collar
 unfolding toldNew tryNew protectionOf
 protection-made collar p e = made-by (eqb collar 0) p _ e
 
-pub protection-none : (collar : ℕ) (r : Refusal) → toldNew (Err r) ≡ tryNew collar → protection.None ≡ protectionOf collar
+pub protection-none : (collar : ℕ) (r : Refusal) → toldNew (Err r) ≡ tryNew collar
+    → protection.None ≡ protectionOf collar
 unfolding toldNew tryNew protectionOf
 protection-none collar r e = none-by (eqb collar 0) (refusalNumber r) _ e

@@ -1,5 +1,5 @@
--- A refused call alters nothing lent: document 01, The questions a call goes through. A call that takes a known path writes its words anew,
--- so that it is shown here that a refused one writes those that came in.
+-- A refused call alters nothing lent: document 01, The questions a call goes through. A call that takes a known path
+-- writes its words anew, so that it is shown here that a refused one writes those that came in.
 use Prim.Native.Nat.{ℕ, zero, suc}
 use mathlib.Core.Bool.{Bool, true, false, cond, not, _||_, _&&_}
 use mathlib.Core.List.{List, [], _∷_}
@@ -35,7 +35,8 @@ flag-isOn (suc zero) h = refl
 flag-isOn (suc (suc f)) h = omega (arith, leb-true (suc (suc f)) 1 h)
 
 -- those of a known path are those that it was read from
-pub pathWords-pathOf : (a b p f : ℕ) → pathKnown (a ∷ b ∷ p ∷ f ∷ []) ≡ true → pathWords (pathOf (a ∷ b ∷ p ∷ f ∷ [])) ≡ a ∷ b ∷ p ∷ f ∷ []
+pub pathWords-pathOf : (a b p f : ℕ) → pathKnown (a ∷ b ∷ p ∷ f ∷ []) ≡ true
+    → pathWords (pathOf (a ∷ b ∷ p ∷ f ∷ [])) ≡ a ∷ b ∷ p ∷ f ∷ []
 unfolding pathWords pathOf pathKnown
 pathWords-pathOf a b p f h =
     let t = and-parts _ _ h in
@@ -70,10 +71,13 @@ module _ (a b p f k : ℕ) (w : List ℕ) where
       → admit kill trade id terms quantity w q .answer ≡ refused k
       → (admit kill trade id terms quantity w q .words ≡ w) × (admit kill trade id terms quantity w q .path ≡ q)
   unfolding admit
-  admit-stays kill trade id terms quantity q h = decided-stays k w (firstNo (admissionQuestions kill trade id terms quantity w)) q _ _ refl h
+  admit-stays kill trade id terms quantity q h =
+      decided-stays k w (firstNo (admissionQuestions kill trade id terms quantity w)) q _ _ refl h
 
-  pub admit-refused-stays : (kill : ℕ) (trade id terms : List ℕ) (quantity : ℕ) → admitByWords kill trade id terms quantity w path .answer ≡ refused k
-      → (admitByWords kill trade id terms quantity w path .words ≡ w) × (admitByWords kill trade id terms quantity w path .path ≡ path)
+  pub admit-refused-stays : (kill : ℕ) (trade id terms : List ℕ) (quantity : ℕ)
+      → admitByWords kill trade id terms quantity w path .answer ≡ refused k
+      → (admitByWords kill trade id terms quantity w path .words ≡ w)
+      × (admitByWords kill trade id terms quantity w path .path ≡ path)
   unfolding admitByWords
   admit-refused-stays kill trade id terms quantity h =
       known-stays k w (idKnown id && (termsKnown terms && pathKnown path)) path _ (pathOf path)
@@ -84,10 +88,12 @@ module _ (a b p f k : ℕ) (w : List ℕ) where
   unfolding clear
   clear-stays q h = decided-stays k w (firstNo (question 1 (wellFormed w) ∷ [])) q _ _ refl h
 
-  pub clear-refused-stays : clearByWords w path .answer ≡ refused k → (clearByWords w path .words ≡ w) × (clearByWords w path .path ≡ path)
+  pub clear-refused-stays : clearByWords w path .answer ≡ refused k
+      → (clearByWords w path .words ≡ w) × (clearByWords w path .path ≡ path)
   unfolding clearByWords
   clear-refused-stays h =
-      known-stays k w (pathKnown path) path _ (pathOf path) (λ e. pathWords-pathOf a b p f e) (clear-stays (pathOf path)) h
+      known-stays k w (pathKnown path) path _ (pathOf path) (λ e. pathWords-pathOf a b p f e)
+      (clear-stays (pathOf path)) h
 
 ------------------------------------------------------------------------
 -- Run
@@ -96,7 +102,8 @@ module _ (k : ℕ) (w : List ℕ) (elected : ℕ) where
   abbrev unread : List ℕ → RunOutcome
   unread path = record { answer = unknown; words = w; elected = []; path = path }
 
-  run-known-stays : (known : Bool) (path : List ℕ) (o : calls.RunOutcome) (p : PrintPath) → (known ≡ true → pathWords p ≡ path)
+  run-known-stays : (known : Bool) (path : List ℕ) (o : calls.RunOutcome) (p : PrintPath)
+      → (known ≡ true → pathWords p ≡ path)
       → (o .answer ≡ refused k → (o .words ≡ w) × (o .elected ≡ []) × (o .path ≡ p))
       → cond known (hostedRun o) (unread path) .answer ≡ refused k
       → (cond known (hostedRun o) (unread path) .words ≡ w) × (cond known (hostedRun o) (unread path) .elected ≡ [])
@@ -112,5 +119,7 @@ module _ (k : ℕ) (w : List ℕ) (elected : ℕ) where
       × (runByWords settings script trade w elected (a ∷ b ∷ p ∷ f ∷ []) .path ≡ a ∷ b ∷ p ∷ f ∷ [])
   unfolding runByWords
   run-refused-stays a b p f settings script trade h =
-      run-known-stays (pathKnown (a ∷ b ∷ p ∷ f ∷ [])) (a ∷ b ∷ p ∷ f ∷ []) _ (pathOf (a ∷ b ∷ p ∷ f ∷ [])) (λ e. pathWords-pathOf a b p f e)
-      (λ q. runCall-refused (settingsOf settings) w elected script (lastPriceOf trade) (pathOf (a ∷ b ∷ p ∷ f ∷ [])) (k, q)) h
+      run-known-stays (pathKnown (a ∷ b ∷ p ∷ f ∷ [])) (a ∷ b ∷ p ∷ f ∷ []) _ (pathOf (a ∷ b ∷ p ∷ f ∷ []))
+      (λ e. pathWords-pathOf a b p f e)
+      (λ q. runCall-refused (settingsOf settings) w elected script (lastPriceOf trade) (pathOf (a ∷ b ∷ p ∷ f ∷ []))
+      (k, q)) h

@@ -1,5 +1,5 @@
-// Whether the pending stops of a store differ in identity and in sequence: by buckets of their keys, in a time that the number of
-// stops bounds and not its square, unless keys are made to collide.
+// Whether the pending stops of a store differ in identity and in sequence: by buckets of their keys, in a time that the
+// number of stops bounds and not its square, unless keys are made to collide.
 use book::MOST_RECORDS;
 use form_check::Key;
 use records::word;
@@ -56,8 +56,8 @@ fn same_key(s: &[u64], n: u64, key: Key, i: u64, j: u64) -> bool
     kind_number(word(s, n, i, 0)) == kind_number(word(s, n, j, 0))
 }
 
-// Whether no stop before record i has its key. Record p is the last before it in the bucket of its key, and nexts leads from a stop to
-// the one before it in its bucket.
+// Whether no stop before record i has its key. Record p is the last before it in the bucket of its key, and nexts leads
+// from a stop to the one before it in its bucket.
 fn is_new(s: &[u64], n: u64, key: Key, i: u64, p: u64, nexts: &[u64; MOST_RECORDS + 1]) -> bool
     requires { ⌜ Record n (now s) i × Stop (now s) i ⌝ }
     requires { ⌜ p ≡ lastOf (inBucket key (now s) (bucketAt key (now s) i)) (i - 1) ⌝ }
@@ -74,8 +74,8 @@ fn is_new(s: &[u64], n: u64, key: Key, i: u64, p: u64, nexts: &[u64; MOST_RECORD
     true
 }
 
-// Whether no two stops of n records have the same key. A stop is compared with those before it in the bucket of its key: with few,
-// unless keys were chosen to fall into one bucket; at worst with all, n * (n - 1) / 2 pairs.
+// Whether no two stops of n records have the same key. A stop is compared with those before it in the bucket of its
+// key: with few, unless keys were chosen to fall into one bucket; at worst with all, n * (n - 1) / 2 pairs.
 fn keys_differ(s: &[u64], n: u64, key: Key) -> bool
     requires { ⌜ Room n (now s) ⌝ }
     ensures { λ r. ⌜ r ≡ keysDiffer key (now (s .entry)) n ⌝ }

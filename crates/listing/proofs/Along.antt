@@ -1,5 +1,5 @@
--- Entries written along a chain: each record that passes a test gives entries, up to the first that does not. The state of a loop that is
--- to write them, and what a turn makes of it.
+-- Entries written along a chain: each record that passes a test gives entries, up to the first that does not. The state
+-- of a loop that is to write them, and what a turn makes of it.
 use Prim.Native.Nat.{ℕ, _+_, _-_, _≤_}
 use native.Mathlib.Omega.{arith}
 use mathlib.Core.Path.{_≡_, refl, sym, ap, _∙_}
@@ -36,7 +36,8 @@ module _ (test : StopEntry → Bool) (give : StopEntry → List (List ℕ)) (w :
       pub listed : Written list at done m now
       pub room : at + length es ≤ length list
 
-    pub at-first : (p : ℕ) (l : List ℕ) → Room n w → Linked n w k p l → length l ≤ n → es ≡ along l → at + length es ≤ length list
+    pub at-first : (p : ℕ) (l : List ℕ) → Room n w → Linked n w k p l → length l ≤ n → es ≡ along l
+        → at + length es ≤ length list
         → At (getD w p 0) at n list
     at-first p l inside linked short e room = record {
       inside = inside;
@@ -86,7 +87,8 @@ module _ (test : StopEntry → Bool) (give : StopEntry → List (List ℕ)) (w :
         module _ (t : test (entryAt w i) ≡ true) where
           whole-next : (a .done ++ give (entryAt w i)) ++ along (at-from .rest) ≡ es
           unfolding along
-          whole-next = append-assoc (a .done) (give (entryAt w i)) (along (at-from .rest)) ∙ (rw (at-from .is, t) at (a .whole))
+          whole-next = append-assoc (a .done) (give (entryAt w i)) (along (at-from .rest))
+              ∙ (rw (at-from .is, t) at (a .whole))
 
           pub at-room : m + length (give (entryAt w i)) ≤ length now
           at-room =
@@ -95,7 +97,8 @@ module _ (test : StopEntry → Bool) (give : StopEntry → List (List ℕ)) (w :
               ∙ ap (λ k. k + length (along (at-from .rest))) (length-append (a .done) (give (entryAt w i))) in
               omega (arith, e, at-length, a .listed .0, a .room)
 
-          pub at-next : (r : ℕ) (after : List (List ℕ)) → Written now m (give (entryAt w i)) r after → At (recordWord w i k) r (left - 1) after
+          pub at-next : (r : ℕ) (after : List (List ℕ)) → Written now m (give (entryAt w i)) r after
+              → At (recordWord w i k) r (left - 1) after
           unfolding recordWord
           at-next r after h = record {
             inside = a .inside;
@@ -108,7 +111,8 @@ module _ (test : StopEntry → Bool) (give : StopEntry → List (List ℕ)) (w :
             whole = whole-next;
             listed = (
               omega (arith, h .0, a .listed .0, length-append (a .done) (give (entryAt w i))),
-              h .1 ∙ ap (λ l. sets l m (give (entryAt w i))) (a .listed .1) ∙ sets-on (a .done) (give (entryAt w i)) list at m (a .listed .0),
+              h .1 ∙ ap (λ l. sets l m (give (entryAt w i))) (a .listed .1)
+                  ∙ sets-on (a .done) (give (entryAt w i)) list at m (a .listed .0),
             );
             room = a .room;
           }

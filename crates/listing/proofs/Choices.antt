@@ -31,9 +31,11 @@ module _ (keep : StopEntry → Bool) where
   chosen-all : (P : Pending → Type 0) (l : List Pending) → All P l → All P (chosen l)
   unfolding chosen
   chosen-all P [] h = h
-  chosen-all P (p ∷ l) h = cases (keep (p .entry)) (λ e. rw e (h .0, chosen-all P l (h .1))) (λ e. rw e (chosen-all P l (h .1)))
+  chosen-all P (p ∷ l) h =
+      cases (keep (p .entry)) (λ e. rw e (h .0, chosen-all P l (h .1))) (λ e. rw e (chosen-all P l (h .1)))
 
-  chosen-withIndex : (i : ℕ) (o : Option StopEntry) (l : List Pending) → chosen (withIndex i o l) ≡ withIndex i (chosenOf o) (chosen l)
+  chosen-withIndex : (i : ℕ) (o : Option StopEntry) (l : List Pending)
+      → chosen (withIndex i o l) ≡ withIndex i (chosenOf o) (chosen l)
   unfolding chosen chosenOf withIndex
   chosen-withIndex i none l = refl
   chosen-withIndex i (some t) l = cases (keep t) (λ e. rw e) (λ e. rw e)
@@ -42,7 +44,8 @@ module _ (keep : StopEntry → Bool) where
       → chosen (gather f i ss) ≡ gather g i ss
   unfolding gather chosen
   chosen-gather f g h i [] = refl
-  chosen-gather f g h i (s ∷ ss) = chosen-withIndex i (f s) (gather f (suc i) ss) ∙ rw (h s, chosen-gather f g h (suc i) ss)
+  chosen-gather f g h i (s ∷ ss) =
+      chosen-withIndex i (f s) (gather f (suc i) ss) ∙ rw (h s, chosen-gather f g h (suc i) ss)
 
 ------------------------------------------------------------------------
 -- In the order of a chain
@@ -54,13 +57,16 @@ module _ (c : Chain) where
   Rising (x ∷ l) = AllStops (λ t. rank c (x .entry) ≤ rank c t) l × Rising l
 
   module _ (x : Pending) (f : StopFits (x .entry)) where
-    ranks-below : (y : Pending) → StopFits (y .entry) → before c (x .entry) (y .entry) ≡ true → rank c (x .entry) < rank c (y .entry)
+    ranks-below : (y : Pending) → StopFits (y .entry) → before c (x .entry) (y .entry) ≡ true
+        → rank c (x .entry) < rank c (y .entry)
     ranks-below y g e = ltb-true _ _ (sym (before-rank c (x .entry) (y .entry) f g) ∙ e)
 
-    below-ranks : (y : Pending) → StopFits (y .entry) → rank c (x .entry) < rank c (y .entry) → before c (x .entry) (y .entry) ≡ true
+    below-ranks : (y : Pending) → StopFits (y .entry) → rank c (x .entry) < rank c (y .entry)
+        → before c (x .entry) (y .entry) ≡ true
     below-ranks y g u = before-rank c (x .entry) (y .entry) f g ∙ lt-ltb _ _ u
 
-    ranks-above : (y : Pending) → StopFits (y .entry) → before c (x .entry) (y .entry) ≡ false → rank c (y .entry) ≤ rank c (x .entry)
+    ranks-above : (y : Pending) → StopFits (y .entry) → before c (x .entry) (y .entry) ≡ false
+        → rank c (y .entry) ≤ rank c (x .entry)
     ranks-above y g e = ltb-false _ _ (sym (before-rank c (x .entry) (y .entry) f g) ∙ e)
 
     below-first : (l : List Pending) → AllStops (λ t. before c (x .entry) t ≡ true) l → insert c x l ≡ x ∷ l
@@ -69,7 +75,8 @@ module _ (c : Chain) where
     below-first (y ∷ l) h = rw (h .0)
 
     -- before the first of a list that rises, so before all
-    before-all : (y : Pending) (l : List Pending) → AllStops StopFits (y ∷ l) → Rising (y ∷ l) → before c (x .entry) (y .entry) ≡ true
+    before-all : (y : Pending) (l : List Pending) → AllStops StopFits (y ∷ l) → Rising (y ∷ l)
+        → before c (x .entry) (y .entry) ≡ true
         → AllStops (λ t. before c (x .entry) t ≡ true) (y ∷ l)
     before-all y l g r e =
         let u = ranks-below y (g .0) e in (
@@ -83,15 +90,25 @@ module _ (c : Chain) where
     insert-rising [] g r = (tt, tt)
     insert-rising (y ∷ l) g r = cases (before c (x .entry) (y .entry))
         (λ e. rw e
-        let u = ranks-below y (g .0) e in
-        ((omega (arith, u), all-map {P = λ z. rank c (y .entry) ≤ rank c (z .entry)} (λ z v. omega (arith, u, v)) l (r .0)), r))
-        (λ e. rw e
-        (insertBy-all (earlierIn c) (λ z. rank c (y .entry) ≤ rank c (z .entry)) x l (ranks-above y (g .0) e) (r .0), insert-rising l (g .1) (r .1)))
+        let u = ranks-below y (g .0) e in (
+          (
+            omega (arith, u),
+            all-map {P = λ z. rank c (y .entry) ≤ rank c (z .entry)} (λ z v. omega (arith, u, v)) l
+                (r .0),
+          ),
+          r,
+        ))
+        (λ e. rw e (
+          insertBy-all (earlierIn c) (λ z. rank c (y .entry) ≤ rank c (z .entry)) x l (ranks-above y (g .0) e) (r .0),
+          insert-rising l (g .1) (r .1),
+        ))
 
   sort-rising : (l : List Pending) → AllStops StopFits l → Rising (sort c l)
   unfolding sortBy
   sort-rising [] g = tt
-  sort-rising (x ∷ l) g = insert-rising x (g .0) (sort c l) (sortBy-all (earlierIn c) (λ z. StopFits (z .entry)) l (g .1)) (sort-rising l (g .1))
+  sort-rising (x ∷ l) g =
+      insert-rising x (g .0) (sort c l) (sortBy-all (earlierIn c) (λ z. StopFits (z .entry)) l (g .1))
+      (sort-rising l (g .1))
 
   module _ (keep : StopEntry → Bool) where
     chosen-out : (x : Pending) (l : List Pending) → keep (x .entry) ≡ false → chosen keep (insert c x l) ≡ chosen keep l
@@ -99,7 +116,8 @@ module _ (c : Chain) where
     chosen-out x [] k = rw k
     chosen-out x (y ∷ l) k = cases (before c (x .entry) (y .entry)) (λ e. rw (e, k)) (λ e. rw (e, chosen-out x l k))
 
-    chosen-in : (x : Pending) (l : List Pending) → keep (x .entry) ≡ true → StopFits (x .entry) → AllStops StopFits l → Rising l
+    chosen-in : (x : Pending) (l : List Pending) → keep (x .entry) ≡ true → StopFits (x .entry) → AllStops StopFits l
+        → Rising l
         → chosen keep (insert c x l) ≡ insert c x (chosen keep l)
     unfolding insertBy chosen
     chosen-in x [] k f g r = rw k

@@ -1,4 +1,5 @@
--- The stops of a chain that pass a test lead it: what a walk up to the first that does not pass finds are all that pass, in order.
+-- The stops of a chain that pass a test lead it: what a walk up to the first that does not pass finds are all that
+-- pass, in order.
 use Prim.Native.Nat.{ℕ}
 use mathlib.Core.Path.{_≡_, refl, sym, _∙_}
 use mathlib.Core.Logic.{_≢_}
@@ -41,14 +42,16 @@ Passes test d t = (sideOf t ≡ d) × (test t ≡ true)
 abbrev pub Fails : (StopEntry → Bool) → Side → StopEntry → Type 0
 Fails test d t = (sideOf t ≡ d) × (test t ≡ false)
 
-part-passes : (P Q : StopEntry → Type 0) (d s : Side) (t : StopEntry) → (s ≡ d → P t) → Part P Q (ofSide d s t) none (ofSide d s t)
+part-passes : (P Q : StopEntry → Type 0) (d s : Side) (t : StopEntry) → (s ≡ d → P t)
+    → Part P Q (ofSide d s t) none (ofSide d s t)
 unfolding ofSide
 part-passes P Q Sell Sell t h = early t (h refl)
 part-passes P Q Sell Buy t h = never
 part-passes P Q Buy Sell t h = never
 part-passes P Q Buy Buy t h = early t (h refl)
 
-part-fails : (P Q : StopEntry → Type 0) (d s : Side) (t : StopEntry) → (s ≡ d → Q t) → Part P Q none (ofSide d s t) (ofSide d s t)
+part-fails : (P Q : StopEntry → Type 0) (d s : Side) (t : StopEntry) → (s ≡ d → Q t)
+    → Part P Q none (ofSide d s t) (ofSide d s t)
 unfolding ofSide
 part-fails P Q Sell Sell t h = late t (h refl)
 part-fails P Q Sell Buy t h = never
@@ -56,7 +59,8 @@ part-fails P Q Buy Sell t h = never
 part-fails P Q Buy Buy t h = late t (h refl)
 
 module _ (test : StopEntry → Bool) (d : Side) where
-  slot-part : (s : Slot) → Part (Passes test d) (Fails test d) (leading test d s) (leading (λ t. not (test t)) d s) (pendingOn d s)
+  slot-part : (s : Slot)
+      → Part (Passes test d) (Fails test d) (leading test d s) (leading (λ t. not (test t)) d s) (pendingOn d s)
   unfolding leading leavingOn pendingOn
   slot-part vacant = never
   slot-part (held t) = cases (test t)
@@ -83,11 +87,13 @@ module _ (test : StopEntry → Bool) (give : StopEntry → List (List ℕ)) (w :
   along-parted [] (p ∷ b) r h k = rw (r .0, k .0 .1)
   along-parted (p ∷ a) b r h k = rw (r .0, h .0 .1, along-parted a b (r .1) (h .1) k)
 
-  pub along-chain : (c : Chain) → chainSide c ≡ d → Apart c (Passes test d) (Fails test d) → (ss : List Slot) → All (Reads w) (chain c ss)
+  pub along-chain : (c : Chain) → chainSide c ≡ d → Apart c (Passes test d) (Fails test d) → (ss : List Slot)
+      → All (Reads w) (chain c ss)
       → along test give w (indices (chain c ss)) ≡ given give (sort c (gather (leading test d) 1 ss))
   unfolding chain
   along-chain c e apart ss reads =
-      let v = parted c (Passes test d) (Fails test d) apart (leading test d) (leading (λ t. not (test t)) d) (pendingOn d) (λ s. s) 1 ss
+      let v = parted c (Passes test d) (Fails test d) apart (leading test d) (leading (λ t. not (test t)) d)
+      (pendingOn d) (λ s. s) 1 ss
       (all-of (slot-part test d) ss) in
       rw (e, v .joined) (along-parted _ _ (rw (e, v .joined) at reads) (v .front) (v .back))
 
@@ -103,8 +109,10 @@ abbrev pub electedStop : Price → StopEntry → Bool
 electedStop price t = electedAt (t .terms) price
 
 -- as the code tells them of the terms u that it read from record i
-module _ (w : List ℕ) (i : ℕ) (u : StopTerms) (e : u ≡ entryAt w i .terms) (price : Price) {told v : Bool} (is : told ≡ v) where
-  pub behind-told : (d : Side) → told ≡ behind d (u .watermark .0) (price .0) → watermarkBehind d price (entryAt w i) ≡ v
+module _ (w : List ℕ) (i : ℕ) (u : StopTerms) (e : u ≡ entryAt w i .terms)
+    (price : Price) {told v : Bool} (is : told ≡ v) where
+  pub behind-told : (d : Side) → told ≡ behind d (u .watermark .0) (price .0)
+      → watermarkBehind d price (entryAt w i) ≡ v
   behind-told d q = rw (← e) (sym q ∙ is)
 
   pub elected-told : told ≡ electedAt u price → electedStop price (entryAt w i) ≡ v
@@ -116,7 +124,8 @@ tie Sell x y = ltb (seqOf x) (seqOf y)
 tie Buy x y = ltb (seqOf y) (seqOf x)
 
 before-ByWatermark : (d : Side) (x y : StopEntry)
-    → before (ByWatermark d) x y ≡ lexicographic (behind d (watermarkOf x) (watermarkOf y)) (watermarkOf x) (watermarkOf y) (tie d x y)
+    → before (ByWatermark d) x y ≡ lexicographic (behind d (watermarkOf x) (watermarkOf y)) (watermarkOf x)
+    (watermarkOf y) (tie d x y)
 unfolding before behind tie
 before-ByWatermark Sell x y = refl
 before-ByWatermark Buy x y = refl
@@ -124,10 +133,12 @@ before-ByWatermark Buy x y = refl
 behind-differs : (d : Side) (a b : ℕ) → behind d a b ≡ true → b ≢ a
 behind-differs d a b h e = false≢true (sym (behind-irrefl d a) ∙ (rw e at h))
 
-pub watermarks-apart : (d : Side) (price : Price) → Apart (ByWatermark d) (Passes (watermarkBehind d price) d) (Fails (watermarkBehind d price) d)
+pub watermarks-apart : (d : Side) (price : Price)
+    → Apart (ByWatermark d) (Passes (watermarkBehind d price) d) (Fails (watermarkBehind d price) d)
 unfolding lexicographic
 watermarks-apart d price = record {
-  first = λ x y e l. rw (before-ByWatermark d x y, behind-past d (watermarkOf x) (price .0) (watermarkOf y) (e .1) (l .1));
+  first = λ x y e l. rw
+      (before-ByWatermark d x y, behind-past d (watermarkOf x) (price .0) (watermarkOf y) (e .1) (l .1));
   second = λ x y e l.
       let h = behind-past d (watermarkOf x) (price .0) (watermarkOf y) (e .1) (l .1) in
       rw (
@@ -148,7 +159,8 @@ module _ (d : Side) (price : Price) (t : StopEntry) where
   waiting-unmet : Fails (electedStop price) d t → Unmet d price t
   waiting-unmet h = not-false _ (sym (elected-past (h .0)) ∙ h .1)
 
-pub elected-apart : (d : Side) (price : Price) → Apart (ByStop d) (Passes (electedStop price) d) (Fails (electedStop price) d)
+pub elected-apart : (d : Side) (price : Price)
+    → Apart (ByStop d) (Passes (electedStop price) d) (Fails (electedStop price) d)
 elected-apart d price =
     let a = stops-apart d price in
     record {

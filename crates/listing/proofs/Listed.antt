@@ -1,4 +1,5 @@
--- What a walk along a chain of a store finds: the moves of a side in watermark chain order, and its elected in stop chain order.
+-- What a walk along a chain of a store finds: the moves of a side in watermark chain order, and its elected in stop
+-- chain order.
 use Prim.Native.Nat.{ℕ, suc}
 use mathlib.Core.Path.{_≡_, refl, sym, _∙_}
 use mathlib.Core.Logic.{_⊎_, inl, inr}
@@ -32,7 +33,8 @@ use Rattle.listing.specs.Entries.{movedWords, fillWords, movesOf, fillOf
 unfoldable pub changes : Price → StopEntry → Bool
 changes price t = not (eqb (stopOf (trailed price t)) (stopOf t))
 
-given-moves : (price : Price) (l : List Pending) → given (movesOf price) l ≡ map movedWords (map (movedEntry price) (chosen (changes price) l))
+given-moves : (price : Price) (l : List Pending)
+    → given (movesOf price) l ≡ map movedWords (map (movedEntry price) (chosen (changes price) l))
 unfolding given movesOf chosen changes movedEntry
 given-moves price [] = refl
 given-moves price (p ∷ l) = cases (eqb (stopOf (trailed price (p .entry))) (stopOf (p .entry)))
@@ -46,7 +48,8 @@ side-or-none Sell Buy t = inr refl
 side-or-none Buy Sell t = inr refl
 side-or-none Buy Buy t = inl refl
 
-chosen-side : (keep : StopEntry → Bool) (d s : Side) (t : StopEntry) → chosenOf keep (ofSide d s t) ≡ cond (keep t) (ofSide d s t) none
+chosen-side : (keep : StopEntry → Bool) (d s : Side) (t : StopEntry)
+    → chosenOf keep (ofSide d s t) ≡ cond (keep t) (ofSide d s t) none
 unfolding chosenOf ofSide
 chosen-side keep Sell Sell t = refl
 chosen-side keep Sell Buy t = cases (keep t) (λ e. rw e) (λ e. rw e)
@@ -66,7 +69,8 @@ module _ (price : Price) (d : Side) where
   unfolding leading leavingOn mover changedOn changes chosenOf
   leading-mover vacant = refl
   leading-mover (held t) = cases (watermarkBehind d price t)
-      (λ e. rw (e, chosen-side (changes price) d (sideOf t) t) (cases (eqb (stopOf (trailed price t)) (stopOf t)) (λ f. rw f) (λ f. rw f)))
+      (λ e. rw (e, chosen-side (changes price) d (sideOf t) t)
+      (cases (eqb (stopOf (trailed price t)) (stopOf t)) (λ f. rw f) (λ f. rw f)))
       (λ e. rw e (sym (still-mover t e)))
 
 ------------------------------------------------------------------------
@@ -76,7 +80,8 @@ abbrev OptionFits : Option StopEntry → Type 0
 OptionFits none = Unit {0}
 OptionFits (some t) = StopFits t
 
-withIndex-fits : (i : ℕ) (o : Option StopEntry) (l : List Pending) → OptionFits o → AllStops StopFits l → AllStops StopFits (withIndex i o l)
+withIndex-fits : (i : ℕ) (o : Option StopEntry) (l : List Pending) → OptionFits o → AllStops StopFits l
+    → AllStops StopFits (withIndex i o l)
 unfolding withIndex
 withIndex-fits i none l f h = h
 withIndex-fits i (some t) l f h = (f, h)
@@ -98,17 +103,21 @@ module _ (test : StopEntry → Bool) (d : Side) where
   unfolding gather
   gather-fits i [] f = tt
   gather-fits i (s ∷ ss) f =
-      withIndex-fits i (leading test d s) (gather (leading test d) (suc i) ss) (leading-fits s (f .0)) (gather-fits (suc i) ss (f .1))
+      withIndex-fits i (leading test d s) (gather (leading test d) (suc i) ss) (leading-fits s (f .0))
+      (gather-fits (suc i) ss (f .1))
 
 pub given-movedOn : (price : Price) (d : Side) (b : Book) → All SlotFits (b .slots)
-    → given (movesOf price) (sort (ByWatermark d) (gather (leading (watermarkBehind d price) d) 1 (b .slots))) ≡ map movedWords (movedOn price d b)
+    → given (movesOf price)
+    (sort (ByWatermark d) (gather (leading (watermarkBehind d price) d) 1 (b .slots))) ≡ map movedWords
+    (movedOn price d b)
 unfolding movedOn
 given-movedOn price d b f =
     let l = gather (leading (watermarkBehind d price) d) 1 (b .slots) in
     given-moves price (sort (ByWatermark d) l)
     ∙ rw (
       chosen-sort (ByWatermark d) (changes price) l (gather-fits (watermarkBehind d price) d 1 (b .slots) f),
-      chosen-gather (changes price) (leading (watermarkBehind d price) d) (mover price d) (leading-mover price d) 1 (b .slots),
+      chosen-gather (changes price) (leading (watermarkBehind d price) d) (mover price d)
+          (leading-mover price d) 1 (b .slots),
     )
 
 ------------------------------------------------------------------------
@@ -119,7 +128,8 @@ unfolding given fillsOf fillOf fillAt fillWords
 given-fills price [] = refl
 given-fills price (p ∷ l) = rw (given-fills price l)
 
-gather-elect : (price : Price) (d : Side) (i : ℕ) (ss : List Slot) → gather (leading (electedStop price) d) i ss ≡ gather (elect d price) i ss
+gather-elect : (price : Price) (d : Side) (i : ℕ) (ss : List Slot)
+    → gather (leading (electedStop price) d) i ss ≡ gather (elect d price) i ss
 unfolding gather leading elect
 gather-elect price d i [] = refl
 gather-elect price d i (vacant ∷ ss) = rw (gather-elect price d (suc i) ss)

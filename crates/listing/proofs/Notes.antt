@@ -34,7 +34,8 @@ room-one at es x e most h = omega (arith, ap length e)
 ------------------------------------------------------------------------
 -- A move
 
-module _ (price : Price) (t u : StopEntry) (same : t ≡ u) (after : StopTerms) (e : after ≡ trailedAt (t .terms) price) where
+module _ (price : Price) (t u : StopEntry) (same : t ≡ u) (after : StopTerms)
+    (e : after ≡ trailedAt (t .terms) price) where
   moves-none : after .stop .0 ≡ t .terms .stop .0 → movesOf price u ≡ []
   unfolding movesOf trailed
   moves-none q = rw (← same, ← e, eq-eqb (after .stop .0) (t .terms .stop .0) q)
@@ -52,14 +53,17 @@ module _ (price : Price) (t u : StopEntry) (same : t ≡ u) (after : StopTerms) 
     move-none q = written-none list at (movesOf price u) (moves-none q)
 
     pub move-one : after .stop .0 ≢ t .terms .stop .0 → (kind : ℕ) → kind ≡ kindNumber (t .id .kind)
-        → Written list at (movesOf price u) (at + 1) (set list at (kind ∷ t .id .high ∷ t .id .low ∷ after .stop .0 ∷ []))
+        → Written list at (movesOf price u) (at + 1)
+        (set list at (kind ∷ t .id .high ∷ t .id .low ∷ after .stop .0 ∷ []))
     move-one q kind k = rw k (written-one list at (movesOf price u) _ (moves-one q))
 
 ------------------------------------------------------------------------
 -- A fill
 
-pub fill-words : (price : Price) (t u : StopEntry) → t ≡ u → (kind side : ℕ) → kind ≡ kindNumber (t .id .kind) → side ≡ sideNumber (sideOf t)
-    → (kind ∷ t .id .high ∷ t .id .low ∷ side ∷ stopOf t ∷ t .quantity .0 ∷ seqOf t ∷ price .0 ∷ 0 ∷ 0 ∷ 0 ∷ 0 ∷ 0 ∷ []) ≡ fillOf price u
+pub fill-words : (price : Price) (t u : StopEntry) → t ≡ u → (kind side : ℕ) → kind ≡ kindNumber (t .id .kind)
+    → side ≡ sideNumber (sideOf t)
+    → (kind ∷ t .id .high ∷ t .id .low ∷ side ∷ stopOf t ∷ t .quantity .0 ∷ seqOf t ∷ price .0 ∷ 0 ∷ 0 ∷ 0 ∷ 0 ∷ 0
+    ∷ []) ≡ fillOf price u
 unfolding fillOf fillWords
 fill-words price t u same kind side k d = rw (← same, k, d)
 

@@ -1,4 +1,5 @@
--- The walks along the chains of a store that write the two lists: where they start, and what they have written at the end.
+-- The walks along the chains of a store that write the two lists: where they start, and what they have written at the
+-- end.
 use Prim.Native.Nat.{ℕ, _+_, _≤_, _<_}
 use native.Mathlib.Omega.{arith}
 use mathlib.Core.Path.{_≡_, refl, ap, _∙_}
@@ -61,7 +62,8 @@ module _ {n : ℕ} {w : List ℕ} {b : Book} {r : List ℕ} (st : Stored n w b r
   stored-reads : (c : Chain) → All (Reads w) (chain c (b .slots))
   stored-reads c =
       all-map {P = InBook (b .slots)}
-      (λ p h. contents-entry (stored-holds st .contents) (p .index) (p .entry) (h .from) (rw (← st .records) (h .to)) (h .there))
+      (λ p h. contents-entry (stored-holds st .contents) (p .index) (p .entry) (h .from) (rw (← st .records) (h .to))
+      (h .there))
       (chain c (b .slots)) (chain-in-book c (b .slots))
 
 ------------------------------------------------------------------------
@@ -73,30 +75,42 @@ walked test give w c = along test give w (chainIndices c (bookOf w))
 
 module _ {n : ℕ} {w : List ℕ} {b : Book} {r : List ℕ} (st : Stored n w b r) where
   -- where what it finds are the words of xs
-  module _ {A : Type 0} (xs : List A) (words : A → List ℕ) (test : StopEntry → Bool) (give : StopEntry → List (List ℕ)) (c : Chain)
+  module _ {A : Type 0} (xs : List A) (words : A → List ℕ) (test : StopEntry → Bool) (give : StopEntry → List (List ℕ))
+      (c : Chain)
       (e : walked test give w c ≡ map words xs) (list : List (List ℕ)) (at : ℕ) where
-    pub walk-start : at + length xs ≤ length list → At test give w n (linkOf c) list at (walked test give w c) (getD w (headOf c) 0) at n list
+    pub walk-start : at + length xs ≤ length list
+        → At test give w n (linkOf c) list at (walked test give w c) (getD w (headOf c) 0) at n list
     walk-start h =
-        at-first test give w n (linkOf c) list at (walked test give w c) (headOf c) (chainIndices c b) (stored-room st) (stored-linked st c)
+        at-first test give w n (linkOf c) list at (walked test give w c) (headOf c) (chainIndices c b) (stored-room st)
+        (stored-linked st c)
         (linked-length n (linkOf c) w (headOf c) (chainIndices c b) (stored-linked st c))
-        (ap (λ x. along test give w (chainIndices c x)) (stored-book st)) (omega (arith, ap length e, length-map xs words))
+        (ap (λ x. along test give w (chainIndices c x)) (stored-book st))
+        (omega (arith, ap length e, length-map xs words))
 
     pub walk-done : (m : ℕ) (now : List (List ℕ)) → Written list at (walked test give w c) m now
         → (m ≡ at + length xs) × (now ≡ sets list at (map words xs))
-    walk-done m now h = (h .0 ∙ ap (λ l. at + length l) e ∙ ap (λ k. at + k) (length-map xs words), h .1 ∙ ap (sets list at) e)
+    walk-done m now h = (
+      h .0 ∙ ap (λ l. at + length l) e ∙ ap (λ k. at + k) (length-map xs words),
+      h .1
+          ∙ ap (sets list at) e,
+    )
 
   module _ (price : Price) (d : Side) where
-    pub moved-walked : walked (watermarkBehind d price) (movesOf price) w (ByWatermark d) ≡ map movedWords (movedOn price d b)
+    pub moved-walked : walked (watermarkBehind d price)
+        (movesOf price) w (ByWatermark d) ≡ map movedWords (movedOn price d b)
     unfolding chainIndices
     moved-walked =
         rw (stored-book st)
-        (along-chain (watermarkBehind d price) (movesOf price) w d (ByWatermark d) refl (watermarks-apart d price) (b .slots)
+        (along-chain (watermarkBehind d price) (movesOf price) w d (ByWatermark d) refl (watermarks-apart d price)
+        (b .slots)
         (stored-reads st (ByWatermark d))
         ∙ given-movedOn price d b (st .fits .slots))
 
-    pub elected-walked : walked (electedStop price) (fillsOf price) w (ByStop d) ≡ map (λ p. fillWords (fillAt price p)) (electedIn d price b)
+    pub elected-walked : walked (electedStop price)
+        (fillsOf price) w (ByStop d) ≡ map (λ p. fillWords (fillAt price p)) (electedIn d price b)
     unfolding chainIndices
     elected-walked =
         rw (stored-book st)
-        (along-chain (electedStop price) (fillsOf price) w d (ByStop d) refl (elected-apart d price) (b .slots) (stored-reads st (ByStop d))
+        (along-chain (electedStop price) (fillsOf price) w d (ByStop d) refl (elected-apart d price) (b .slots)
+        (stored-reads st (ByStop d))
         ∙ given-electedIn price d b)

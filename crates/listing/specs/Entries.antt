@@ -25,11 +25,13 @@ use Rattle.book.specs.declared.StopEntry.{StopEntry}
 unfoldable pub movedWords : Moved → List ℕ
 movedWords m = kindNumber (m .id .kind) ∷ m .id .high ∷ m .id .low ∷ m .stop .0 ∷ []
 
--- kind, identity high, identity low, side, stop, quantity, sequence, trigger; the words of limit, child and pending are still zero
+-- kind, identity high, identity low, side, stop, quantity, sequence, trigger; the words of limit, child and pending are
+-- still zero
 unfoldable pub fillWords : Fill → List ℕ
 fillWords f =
     let t = f .stop in
-    kindNumber (t .id .kind) ∷ t .id .high ∷ t .id .low ∷ sideNumber (sideOf t) ∷ stopOf t ∷ t .quantity .0 ∷ seqOf t ∷ f .trigger .0
+    kindNumber (t .id .kind) ∷ t .id .high ∷ t .id .low ∷ sideNumber (sideOf t) ∷ stopOf t ∷ t .quantity .0 ∷ seqOf t
+    ∷ f .trigger .0
     ∷ 0 ∷ 0 ∷ 0 ∷ 0 ∷ 0 ∷ []
 
 -- 1 if there is a limit, and its price, or 0
@@ -41,10 +43,12 @@ unfoldable pub limitWord : Limit → ℕ
 limitWord limit.None = 0
 limitWord (limit.At p) = p .0
 
--- kind, identity high, identity low, side, stop, quantity, sequence, trigger, limit present, limit, child high, child low, pending (0 or 1)
+-- kind, identity high, identity low, side, stop, quantity, sequence, trigger, limit present, limit, child high, child
+-- low, pending (0 or 1)
 unfoldable pub electedWords : Elected → List ℕ
 electedWords e =
-    kindNumber (e .id .kind) ∷ e .id .high ∷ e .id .low ∷ sideNumber (e .side) ∷ e .stop .0 ∷ e .quantity .0 ∷ e .seq .0 ∷ e .trigger .0
+    kindNumber (e .id .kind) ∷ e .id .high ∷ e .id .low ∷ sideNumber (e .side) ∷ e .stop .0 ∷ e .quantity .0
+    ∷ e .seq .0 ∷ e .trigger .0
     ∷ limitPresent (e .limit) ∷ limitWord (e .limit) ∷ e .child .high ∷ e .child .low ∷ cond (e .pending) 1 0 ∷ []
 
 ------------------------------------------------------------------------
@@ -53,7 +57,10 @@ electedWords e =
 -- its move, if a trade at the price changes its stop
 unfoldable pub movesOf : Price → StopEntry → List (List ℕ)
 movesOf price t =
-    cond (eqb (stopOf (trailed price t)) (stopOf t)) [] (movedWords (record { id = t .id; stop = trailed price t .terms .stop }) ∷ [])
+    cond (eqb (stopOf (trailed price t)) (stopOf t)) [] (movedWords (record {
+      id = t .id;
+      stop = trailed price t .terms .stop;
+    }) ∷ [])
 
 -- its fill, when a trade at the price has elected it
 unfoldable pub fillOf : Price → StopEntry → List ℕ

@@ -1,5 +1,5 @@
-// The lists that an evaluation is lent, as entries of words: the stops that a print moves, those that it elects, and the limits and
-// child orders of the elected. The store is only read.
+// The lists that an evaluation is lent, as entries of words: the stops that a print moves, those that it elects, and
+// the limits and child orders of the elected. The store is only read.
 //
 //     moved:   kind high low stop
 //     elected: kind high low side stop quantity seq trigger | limit present, limit, child high, child low, child pending
@@ -50,8 +50,8 @@ fn list_move(s: &[u64], n: u64, i: u64, price: Price, list: &mut [MovedWords], a
     at + 1
 }
 
-// Writes the moves of the stops of a side at a price into the list, from a place on, in watermark chain order: those whose watermark
-// is behind the price come first. Answers where the list goes on.
+// Writes the moves of the stops of a side at a price into the list, from a place on, in watermark chain order: those
+// whose watermark is behind the price come first. Answers where the list goes on.
 pub fn list_moved(
     s: &[u64],
     n: u64,
@@ -85,7 +85,8 @@ pub fn list_moved(
 // ---------------------------------------------------------------------
 // The stops that a print elects
 
-// Writes the fill of the stop in record i at a price; the words of limit, child and pending are zero. Answers where the list goes on.
+// Writes the fill of the stop in record i at a price; the words of limit, child and pending are zero. Answers where the
+// list goes on.
 fn list_fill(s: &[u64], n: u64, i: u64, price: Price, list: &mut [ElectedWords], at: usize) -> usize
     requires { ⌜ Record n (now s) i × (at < length (now list)) ⌝ }
     ensures { λ r. ⌜ (r ≡ at + 1) × (now (list .exit) ≡ set (now (list .entry)) at (fillOf price (entryAt (now (s .entry)) i))) ⌝ }
@@ -116,8 +117,8 @@ fn list_fill(s: &[u64], n: u64, i: u64, price: Price, list: &mut [ElectedWords],
     at + 1
 }
 
-// Writes the fills of the stops of a side that a price elects into the list, from a place on, in stop chain order: they come first.
-// Answers where the list goes on.
+// Writes the fills of the stops of a side that a price elects into the list, from a place on, in stop chain order: they
+// come first. Answers where the list goes on.
 pub fn list_elected(
     s: &[u64],
     n: u64,

@@ -18,8 +18,8 @@ ghost use Rattle.listing.specs.Entries.{electedWords};
 ghost use Rattle.pending_stops.specs.Stored.{Stored};
 ghost use Rattle.script.specs.Queue.{Enqueued};
 
-// What a segment of a pass did: how many times a stop price became another, where the list of the elected goes on, the script entries
-// used, and the queue's tail.
+// What a segment of a pass did: how many times a stop price became another, where the list of the elected goes on, the
+// script entries used, and the queue's tail.
 pub struct SegmentPassed {
     pub moves: u64,
     pub at: usize,
@@ -27,8 +27,8 @@ pub struct SegmentPassed {
     pub tail: usize,
 }
 
-// A segment of a pass: its elected go into the list, from a place on, and execute on the script; the segments that they print go behind
-// the queue's tail.
+// A segment of a pass: its elected go into the list, from a place on, and execute on the script; the segments that they
+// print go behind the queue's tail.
 pub fn pass_segment(
     s: &mut [u64],
     n: u64,

@@ -1,5 +1,5 @@
-// A pass on the words of a store: the segments of a queue, one after another, with the script that stands for the matching of the
-// children.
+// A pass on the words of a store: the segments of a queue, one after another, with the script that stands for the
+// matching of the children.
 use book::ElectedWords;
 use book::MOST_RECORDS;
 use book::PrintSegment;
@@ -20,15 +20,16 @@ ghost use Rattle.book.specs.Script.{scriptFormed};
 ghost use Rattle.listing.specs.Entries.{electedWords};
 ghost use Rattle.pending_stops.specs.Stored.{Stored};
 
-// What a pass did: how many times a stop price became another, where the list of the elected goes on, and the script entries used.
+// What a pass did: how many times a stop price became another, where the list of the elected goes on, and the script
+// entries used.
 pub struct Passed {
     pub moves: u64,
     pub at: usize,
     pub used: u64,
 }
 
-// A pass from one segment on: takes the segments of the queue, from head up to tail, until it or the store is empty. Each segment but the
-// first stems from an elected stop, so that the queue has room for all.
+// A pass from one segment on: takes the segments of the queue, from head up to tail, until it or the store is empty.
+// Each segment but the first stems from an elected stop, so that the queue has room for all.
 pub fn pass(
     s: &mut [u64],
     n: u64,

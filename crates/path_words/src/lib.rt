@@ -1,4 +1,5 @@
-// The words of the print path and of prices that may be absent: whether they are known, what they stand for, and those of a segment.
+// The words of the print path and of prices that may be absent: whether they are known, what they stand for, and those
+// of a segment.
 use book::LastPrice;
 use book::PrintPath;
 use book::PrintSegment;

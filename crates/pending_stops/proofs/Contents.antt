@@ -67,11 +67,13 @@ module _ (b : Book) (r : List ℕ) (v : Valid b) (f : Fits b) where
   pub free-vacant : (i : ℕ) → T (has i (b .free)) → VacantFrom 1 (b .slots) i
   free-vacant = all-has (VacantFrom 1 (b .slots)) (b .free) (free-all-vacant b v)
 
-  chains-apart : (a c : StoreChain) → groupOf a ≢ groupOf c → (i : ℕ) → T (has i (chainsOf b a)) → T (has i (chainsOf b c)) → ⊥
+  chains-apart : (a c : StoreChain) → groupOf a ≢ groupOf c → (i : ℕ) → T (has i (chainsOf b a))
+      → T (has i (chainsOf b c)) → ⊥
   chains-apart (Ordered c) (Ordered d) g i h k =
       let m = chain-member c b f i h in
       let o = chain-member d b f i k in
-      let e : sideOf (m .entry) ≡ sideOf (o .entry) = ap (λ (t : StopEntry). sideOf t) (held-unique (m .there) (o .there)) in
+      let e : sideOf (m .entry) ≡ sideOf (o .entry) =
+      ap (λ (t : StopEntry). sideOf t) (held-unique (m .there) (o .there)) in
       g (group-side c ∙ ap sideNumber (m .of-side ∙ e ∙ sym (o .of-side)) ∙ sym (group-side d))
   chains-apart (Ordered c) Free g i h k = held-vacant (chain-member c b f i h .there) (free-vacant i k .is-vacant)
   chains-apart Free (Ordered d) g i h k = held-vacant (chain-member d b f i k .there) (free-vacant i h .is-vacant)
@@ -89,7 +91,8 @@ module _ (b : Book) (r : List ℕ) (v : Valid b) (f : Fits b) where
         ∙ withLinks-watermark (dataWords vacant) (slot-long vacant) (afterByStop b i vacant) 0;
   }
 
-  layout-contents : Contents (length (b .slots)) (layout b ++ r) (pendingCount (b .slots)) (b .next) (b .tick) (b .slots) r
+  layout-contents : Contents (length (b .slots)) (layout b ++ r) (pendingCount (b .slots)) (b .next) (b .tick)
+      (b .slots) r
   unfolding header
   layout-contents = record {
     records = refl;
@@ -97,22 +100,28 @@ module _ (b : Book) (r : List ℕ) (v : Valid b) (f : Fits b) where
     word1 = layout-header b r 1 (omega arith);
     word2 = layout-header b r 2 (omega arith);
     word3 = layout-header b r 3 (omega arith);
-    words = λ i k low high h. layout-record b r i k low high (h .inside) ∙ recordWords-data b i (getD (b .slots) (i - 1) vacant) k h;
+    words = λ i k low high h. layout-record b r i k low high (h .inside)
+        ∙ recordWords-data b i (getD (b .slots) (i - 1) vacant) k h;
     beyond = drop-at (layout b) r (storeLength (length (b .slots))) (layout-length b);
   }
 
 pub stored-holds : {n : ℕ} {w : List ℕ} {b : Book} {r : List ℕ} → Stored n w b r → Holds n w b r
 stored-holds {n} {w} {b} {r} st =
-    rw (st .words, ← st .records) (record { contents = layout-contents b r (st .valid) (st .fits); chained = layout-chained b r (st .valid) (st .fits) })
+    rw (st .words, ← st .records) (record {
+      contents = layout-contents b r (st .valid) (st .fits);
+      chained = layout-chained b r (st .valid) (st .fits);
+    })
 
 ------------------------------------------------------------------------
 -- To the layout
 
 -- every vacant record is in the free chain
-vacant-free : (b : Book) → Valid b → (i : ℕ) → 1 ≤ i → i ≤ length (b .slots) → getD (b .slots) (i - 1) vacant ≡ vacant → T (has i (b .free))
+vacant-free : (b : Book) → Valid b → (i : ℕ) → 1 ≤ i → i ≤ length (b .slots) → getD (b .slots) (i - 1) vacant ≡ vacant
+    → T (has i (b .free))
 vacant-free b v i low high e =
     let InFree : ℕ → Type 0 = λ j. T (has j (b .free)) in
-    let sorted = rw (v .free-vacant) at (sortRanked-within itself (b .free) InFree (has-all InFree (b .free) (λ j h. h))) in
+    let sorted = rw (v .free-vacant) at
+    (sortRanked-within itself (b .free) InFree (has-all InFree (b .free) (λ j h. h))) in
     vacant-member InFree 1 (b .slots) sorted i (record { low = low; high = omega arith; is-vacant = e })
 
 module _ (n : ℕ) (w : List ℕ) (b : Book) (r : List ℕ) (v : Valid b) (f : Fits b) (h : Holds n w b r) where
@@ -121,7 +130,8 @@ module _ (n : ℕ) (w : List ℕ) (b : Book) (r : List ℕ) (v : Valid b) (f : F
 
   chain-next : (a : StoreChain) (i : ℕ) → T (has i (chainsOf b a)) → recordWord w i (nextOf a) ≡ nextIn (chainsOf b a) i
   chain-next a =
-      all-has (Names n w (nextOf a) (chainsOf b a)) (chainsOf b a) (linked-names n w (nextOf a) (startOf a) (chainsOf b a) (h .chained .linked a))
+      all-has (Names n w (nextOf a) (chainsOf b a)) (chainsOf b a)
+      (linked-names n w (nextOf a) (startOf a) (chainsOf b a) (h .chained .linked a))
 
   header-words : (k : ℕ) → k < headerLength → getD w k 0 ≡ getD (header b) k 0
   unfolding header
@@ -147,19 +157,33 @@ module _ (n : ℕ) (w : List ℕ) (b : Book) (r : List ℕ) (v : Valid b) (f : F
     where
       next : (c : Chain) → chainSide c ≡ sideOf t → recordWord w i (linkOf c) ≡ nextIn (chainIndices c b) i
       next c q =
-          chain-next (Ordered c) i (member-chain c b f i (record { from = low; to = rw (h .contents .records) high; entry = t; there = e; of-side = q }))
+          chain-next (Ordered c) i (member-chain c b f i (record {
+            from = low;
+            to = rw (h .contents .records) high;
+            entry = t;
+            there = e;
+            of-side = q;
+          }))
 
-  record-words : (i k : ℕ) → 1 ≤ i → i ≤ n → k < recordLength → recordWord w i k ≡ getD (recordWords b i (getD (b .slots) (i - 1) vacant)) k 0
+  record-words : (i k : ℕ) → 1 ≤ i → i ≤ n → k < recordLength
+      → recordWord w i k ≡ getD (recordWords b i (getD (b .slots) (i - 1) vacant)) k 0
   unfolding recordWords
   record-words i k low high l =
       let s = getD (b .slots) (i - 1) vacant in
       let links = links-words i low high s refl in
       cases (eqb k nextByStop)
-      (λ e. rw (eqb-true k nextByStop e) (links .0 ∙ sym (withLinks-stop (dataWords s) (slot-long s) (afterByStop b i s) (afterByWatermark b i s))))
+      (λ e. rw (eqb-true k nextByStop e)
+      (links .0 ∙ sym (withLinks-stop (dataWords s) (slot-long s) (afterByStop b i s) (afterByWatermark b i s))))
       (λ e. cases (eqb k nextByWatermark)
-      (λ q. rw (eqb-true k nextByWatermark q) (links .1 ∙ sym (withLinks-watermark (dataWords s) (slot-long s) (afterByStop b i s) (afterByWatermark b i s))))
+      (λ q. rw (eqb-true k nextByWatermark q)
+      (links .1 ∙ sym (withLinks-watermark (dataWords s) (slot-long s) (afterByStop b i s)
+      (afterByWatermark b i s))))
       (λ q.
-      let d : IsData k = record { inside = l; no-stop-link = eqb-false k nextByStop e; no-watermark-link = eqb-false k nextByWatermark q } in
+      let d : IsData k = record {
+        inside = l;
+        no-stop-link = eqb-false k nextByStop e;
+        no-watermark-link = eqb-false k nextByWatermark q;
+      } in
       h .contents .words i k low high d ∙ sym (recordWords-data b i s k d)))
 
   pub holds-stored : Stored n w b r
@@ -168,6 +192,8 @@ module _ (n : ℕ) (w : List ℕ) (b : Book) (r : List ℕ) (v : Valid b) (f : F
     fits = f;
     records = h .contents .records;
     words =
-        let front = layout-taken w b header-words (λ i k low high. record-words i k low (rw (h .contents .records) at high)) (rw (h .contents .records) (h .chained .inside .room)) in
+        let front = layout-taken w b header-words
+        (λ i k low high. record-words i k low (rw (h .contents .records) at high))
+        (rw (h .contents .records) (h .chained .inside .room)) in
         sym (take-append-drop (storeLength n) w) ∙ rw (rw (h .contents .records) at front, h .contents .beyond);
   }

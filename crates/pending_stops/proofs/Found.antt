@@ -31,7 +31,12 @@ beyond w = drop (storeLength (getD w 0 0)) w
 
 pub wellFormed-stored : (w : List ℕ) → wellFormed w ≡ true → Stored (getD w 0 0) w (bookOf w) (beyond w)
 wellFormed-stored w e =
-    record { valid = wellFormed-valid w e; fits = wellFormed-fits w e; records = bookOf-slots-length w; words = wellFormed-layout w e }
+    record {
+      valid = wellFormed-valid w e;
+      fits = wellFormed-fits w e;
+      records = bookOf-slots-length w;
+      words = wellFormed-layout w e;
+    }
 
 pub stored-words : (w u : List ℕ) (b : Book) → Stored (getD w 0 0) u b (beyond w) → u ≡ storedBook b w
 unfolding storedBook stored
@@ -68,13 +73,24 @@ found id b i e n = go (lookup id b) refl e
 
 module _ (w : List ℕ) (e : wellFormed w ≡ true) (id : Id) (i : ℕ) (f : Found id (bookOf w) i) where
   pub found-record : Record (getD w 0 0) w i
-  found-record = record { least = f .in-book .from; most = rw (← bookOf-slots-length w) (f .in-book .to); inside = wellFormed-room w e }
+  found-record = record {
+    least = f .in-book .from;
+    most = rw (← bookOf-slots-length w) (f .in-book .to);
+    inside = wellFormed-room w e;
+  }
 
   pub found-entry : entryAt w i ≡ f .entry
   found-entry =
-      contents-entry (stored-holds (wellFormed-stored w e) .contents) i (f .entry) (found-record .least) (found-record .most) (f .in-book .there)
+      contents-entry (stored-holds (wellFormed-stored w e) .contents) i (f .entry) (found-record .least)
+      (found-record .most) (f .in-book .there)
 
   pub found-member : (t : StopEntry) → t ≡ entryAt w i → Member (sideOf t) (bookOf w .slots) i
   found-member t q =
       rw (q ∙ found-entry)
-      (record { from = f .in-book .from; to = f .in-book .to; entry = f .entry; there = f .in-book .there; of-side = refl })
+      (record {
+        from = f .in-book .from;
+        to = f .in-book .to;
+        entry = f .entry;
+        there = f .in-book .there;
+        of-side = refl;
+      })

@@ -31,7 +31,8 @@ use Rattle.pending_stops.proofs.StoredWords.{recordOf, contents-kept, c
 use Rattle.pending_stops.proofs.Vacancy.{ready-record, stored-room}
 use Rattle.pending_stops.specs.Stored.{Stored, Contents}
 
-module _ (n : ℕ) (w : List ℕ) (b : Book) (r : List ℕ) (st : Stored n w b r) (room : pendingCount (b .slots) < length (b .slots)) where
+module _ (n : ℕ) (w : List ℕ) (b : Book) (r : List ℕ) (st : Stored n w b r)
+    (room : pendingCount (b .slots) < length (b .slots)) where
   pub free-first : b .free ≡ headOr0 (b .free) ∷ drop 1 (b .free)
   unfolding headOr0
   free-first = go (b .free) (omega (arith, free-count b (st .valid)))
@@ -41,7 +42,8 @@ module _ (n : ℕ) (w : List ℕ) (b : Book) (r : List ℕ) (st : Stored n w b r
       go (i ∷ l) h = refl
 
   first-vacant : VacantFrom 1 (b .slots) (headOr0 (b .free))
-  first-vacant = free-vacant b r (st .valid) (st .fits) (headOr0 (b .free)) (rw (← free-first) at (has-here (headOr0 (b .free)) (drop 1 (b .free))))
+  first-vacant = free-vacant b r (st .valid) (st .fits) (headOr0 (b .free))
+      (rw (← free-first) at (has-here (headOr0 (b .free)) (drop 1 (b .free))))
 
   -- one stop more, and the next sequence goes up
   abbrev w1 : List ℕ
@@ -65,26 +67,32 @@ module _ (n : ℕ) (w : List ℕ) (b : Book) (r : List ℕ) (st : Stored n w b r
       let two = contents-next one (getD w 2 0 + 1) (rw length-set (omega (arith, stored-room st))) in
       contents-numbers two (ap (λ (k : ℕ). k + 1) (h .word1)) (ap (λ (k : ℕ). k + 1) next-word)
 
-module _ (n : ℕ) (w : List ℕ) (b : Book) (r : List ℕ) (st : Stored n w b r) (id : Id) (terms : StopTerms) (quantity : Quantity)
+module _ (n : ℕ) (w : List ℕ) (b : Book) (r : List ℕ) (st : Stored n w b r) (id : Id) (terms : StopTerms)
+    (quantity : Quantity)
     (a : Admissible (newEntry id terms quantity b) b)
     (w2 : List ℕ) (k2 : Kept n (w1 n w b r st (a .room)) w2) (i : ℕ)
-    (p2 : (ch : StoreChain → List ℕ) (j : ℕ) (l : List ℕ) → Chained n (w1 n w b r st (a .room)) ch → ch Free ≡ j ∷ l → (i ≡ j) × Ready n w2 (upd Free l ch) j) where
+    (p2 : (ch : StoreChain → List ℕ) (j : ℕ) (l : List ℕ) → Chained n (w1 n w b r st (a .room)) ch → ch Free ≡ j ∷ l
+    → (i ≡ j) × Ready n w2 (upd Free l ch) j) where
   abbrev t : StopEntry
   t = newEntry id terms quantity b
 
   popped : (i ≡ headOr0 (b .free)) × Ready n w2 (upd Free (drop 1 (b .free)) (chainsOf b)) (headOr0 (b .free))
-  popped = p2 (chainsOf b) (headOr0 (b .free)) (drop 1 (b .free)) (occupying-chained n w b r st (a .room)) (free-first n w b r st (a .room))
+  popped = p2 (chainsOf b) (headOr0 (b .free)) (drop 1 (b .free)) (occupying-chained n w b r st (a .room))
+      (free-first n w b r st (a .room))
 
   slots-before : b .slots ≡ set (admitted t b .slots) (i - 1) vacant
   unfolding admitted
   slots-before =
       let v = first-vacant n w b r st (a .room) in
-      rw (popped .0, set-set) (sym (ap (λ (s : Slot). set (b .slots) (headOr0 (b .free) - 1) s) (sym (v .is-vacant)) ∙ set-getD (b .slots) (headOr0 (b .free) - 1) vacant))
+      rw (popped .0, set-set)
+      (sym (ap (λ (s : Slot). set (b .slots) (headOr0 (b .free) - 1) s) (sym (v .is-vacant))
+      ∙ set-getD (b .slots) (headOr0 (b .free) - 1) vacant))
 
   ready2 : Ready n w2 (chainsWithout i (admitted t b)) i
   unfolding admitted
   ready2 =
-      ready-same n w2 i (upd Free (drop 1 (b .free)) (chainsOf b)) (chainsWithout i (admitted t b)) (chainsWithout-vacant b (admitted t b) i slots-before)
+      ready-same n w2 i (upd Free (drop 1 (b .free)) (chainsOf b)) (chainsWithout i (admitted t b))
+      (chainsWithout-vacant b (admitted t b) i slots-before)
       (rw (popped .0) (popped .1))
 
   pub occupying-record : Record n w2 i
@@ -104,7 +112,12 @@ module _ (n : ℕ) (w : List ℕ) (b : Book) (r : List ℕ) (st : Stored n w b r
   unfolding newEntry
   new-entry = rw (next-word n w b r st (a .room))
 
-  module _ (w3 : List ℕ) (e3 : w3 ≡ sets w2 (cell i 0) (recordOf (held (record { id = id; terms = terms; quantity = quantity; seq = record { 0 = getD w 2 0 } })) 0 0)) where
+  module _ (w3 : List ℕ) (e3 : w3 ≡ sets w2 (cell i 0) (recordOf (held (record {
+    id = id;
+    terms = terms;
+    quantity = quantity;
+    seq = record { 0 = getD w 2 0 };
+  })) 0 0)) where
     entry-words : w3 ≡ sets w2 (cell i 0) (recordOf (held t) 0 0)
     entry-words = rw new-entry e3
 
@@ -115,8 +128,10 @@ module _ (n : ℕ) (w : List ℕ) (b : Book) (r : List ℕ) (st : Stored n w b r
     occupied-length w4 k4 = k4 .size ∙ rw (e3, length-sets) (k2 .size ∙ simp length-set)
 
     pub occupied-stored : StopFits t → b .next + 1 < 2 ^ 64 → (w4 : List ℕ) → Kept n w3 w4
-        → ((ch : StoreChain → List ℕ) → Ready n w3 ch i → Chained n w4 (within (terms .side) w3 i ch)) → Stored n w4 (admitted t b) r
+        → ((ch : StoreChain → List ℕ) → Ready n w3 ch i → Chained n w4 (within (terms .side) w3 i ch))
+        → Stored n w4 (admitted t b) r
     unfolding newEntry
     occupied-stored g last w4 k4 p4 =
-        entered-stored n w2 (admitted t b) r (admitted-valid t b (st .valid) a) (admitted-fits t b (st .fits) g last) i t (b .slots) entry-slots contents2 ready2 w3 entry-words
+        entered-stored n w2 (admitted t b) r (admitted-valid t b (st .valid) a)
+        (admitted-fits t b (st .fits) g last) i t (b .slots) entry-slots contents2 ready2 w3 entry-words
         w4 k4 p4

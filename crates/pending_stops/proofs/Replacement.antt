@@ -23,19 +23,25 @@ use Rattle.pending_stops.proofs.StoredWords.{recordOf, contents-kept, c
 use Rattle.pending_stops.proofs.Vacancy.{ready-record, stored-room}
 use Rattle.pending_stops.specs.Stored.{Stored, replaced, Contents}
 
-module _ (n : ℕ) (w : List ℕ) (b : Book) (r : List ℕ) (st : Stored n w b r) (side : Side) (i : ℕ) (m : Member side (b .slots) i)
+module _ (n : ℕ) (w : List ℕ) (b : Book) (r : List ℕ) (st : Stored n w b r) (side : Side) (i : ℕ)
+    (m : Member side (b .slots) i)
     (t : StopEntry) (next : ℕ) (v : Valid (replaced i t next b)) (f : Fits (replaced i t next b)) where
   abbrev w1 : List ℕ
   w1 = set w 2 next
 
   pub replacing-on : On n w1 (chainsOf b) side i
-  replacing-on = side-on b (st .valid) (st .fits) side i m n w1 (chained-set-header n w (chainsOf b) (stored-holds st .chained) 2 next (omega arith))
+  replacing-on = side-on b (st .valid)
+      (st .fits) side i m n w1 (chained-set-header n w (chainsOf b) (stored-holds st .chained) 2 next (omega arith))
 
   same-count : pendingCount (b .slots) ≡ pendingCount (replaced i t next b .slots)
   unfolding pendingCount
-  same-count = omega (arith, rw (m .there) at (pendingCount-set (b .slots) (i - 1) (held t) (omega (arith, m .from, m .to))))
+  same-count = omega (
+    arith,
+    rw (m .there) at (pendingCount-set (b .slots) (i - 1) (held t) (omega (arith, m .from, m .to))),
+  )
 
-  module _ (w2 : List ℕ) (k2 : Kept n w1 w2) (u2 : (ch : StoreChain → List ℕ) → On n w1 ch side i → Ready n w2 (without side i ch) i) where
+  module _ (w2 : List ℕ) (k2 : Kept n w1 w2)
+      (u2 : (ch : StoreChain → List ℕ) → On n w1 ch side i → Ready n w2 (without side i ch) i) where
     ready2 : Ready n w2 (chainsWithout i (replaced i t next b)) i
     ready2 =
         ready-same n w2 i (chainsWithout i b) (chainsWithout i (replaced i t next b))
@@ -46,7 +52,8 @@ module _ (n : ℕ) (w : List ℕ) (b : Book) (r : List ℕ) (st : Stored n w b r
     replacing-record = ready-record n w2 (chainsWithout i (replaced i t next b)) i ready2
 
     contents2 : Contents n w2 (pendingCount (replaced i t next b .slots)) next (b .tick) (b .slots) r
-    contents2 = rw (← same-count) (contents-kept (contents-next (stored-holds st .contents) next (omega (arith, stored-room st))) w2 k2)
+    contents2 = rw (← same-count)
+        (contents-kept (contents-next (stored-holds st .contents) next (omega (arith, stored-room st))) w2 k2)
 
     module _ (w3 : List ℕ) (e3 : w3 ≡ sets w2 (cell i 0) (recordOf (held t) 0 0)) where
       pub replacing-ready : Ready n w3 (chainsWithout i (replaced i t next b)) i
@@ -55,6 +62,8 @@ module _ (n : ℕ) (w : List ℕ) (b : Book) (r : List ℕ) (st : Stored n w b r
       pub replaced-length : (w4 : List ℕ) → Kept n w3 w4 → length w4 ≡ length w
       replaced-length w4 k4 = k4 .size ∙ rw (e3, length-sets) (k2 .size ∙ length-set w 2 next)
 
-      pub replaced-stored : (w4 : List ℕ) → Kept n w3 w4 → ((ch : StoreChain → List ℕ) → Ready n w3 ch i → Chained n w4 (within (sideOf t) w3 i ch))
+      pub replaced-stored : (w4 : List ℕ) → Kept n w3 w4
+          → ((ch : StoreChain → List ℕ) → Ready n w3 ch i → Chained n w4 (within (sideOf t) w3 i ch))
           → Stored n w4 (replaced i t next b) r
-      replaced-stored w4 k4 p4 = entered-stored n w2 (replaced i t next b) r v f i t (b .slots) refl contents2 ready2 w3 e3 w4 k4 p4
+      replaced-stored w4 k4 p4 =
+          entered-stored n w2 (replaced i t next b) r v f i t (b .slots) refl contents2 ready2 w3 e3 w4 k4 p4

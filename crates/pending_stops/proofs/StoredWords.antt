@@ -31,7 +31,8 @@ recordOf s a c = withLinks (dataWords s) a c
 pub recordOf-length : (s : Slot) (a c : ℕ) → length (recordOf s a c) ≡ recordLength
 recordOf-length s a c = omega (arith, withLinks-length (dataWords s) (slot-long s) a c, dataWords-length s)
 
-module _ {n : ℕ} {w : List ℕ} {count next tick : ℕ} {ss : List Slot} {r : List ℕ} (h : Contents n w count next tick ss r) where
+module _ {n : ℕ} {w : List ℕ} {count next tick : ℕ} {ss : List Slot} {r : List ℕ}
+    (h : Contents n w count next tick ss r) where
   -- where the header's first words stay
   same-header : (v : List ℕ) (ss' : List Slot) → length ss' ≡ n → ((k : ℕ) → k < 4 → getD v k 0 ≡ getD w k 0)
       → ((i k : ℕ) → 1 ≤ i → i ≤ n → IsData k → recordWord v i k ≡ dataWord (getD ss' (i - 1) vacant) k)
@@ -48,7 +49,8 @@ module _ {n : ℕ} {w : List ℕ} {count next tick : ℕ} {ss : List Slot} {r : 
 
   -- heads and links say nothing of them
   pub contents-kept : (v : List ℕ) → Kept n w v → Contents n v count next tick ss r
-  contents-kept v k = same-header v ss (h .records) (k .header) (λ i m low high l. k .words i m low l ∙ h .words i m low high l) (k .beyond)
+  contents-kept v k = same-header v ss (h .records) (k .header)
+      (λ i m low high l. k .words i m low l ∙ h .words i m low high l) (k .beyond)
 
   -- the same numbers
   pub contents-numbers : {c x : ℕ} → count ≡ c → next ≡ x → Contents n w c x tick ss r
@@ -71,7 +73,8 @@ module _ {n : ℕ} {w : List ℕ} {count next tick : ℕ} {ss : List Slot} {r : 
     word1 = getD-set-same w 1 x 0 l;
     word2 = getD-set-other w 1 2 x 0 (omega arith) ∙ h .word2;
     word3 = getD-set-other w 1 3 x 0 (omega arith) ∙ h .word3;
-    words = λ i k low high l. getD-set-other w 1 (cell i k) x 0 (λ e. omega (arith, cell-least i k)) ∙ h .words i k low high l;
+    words = λ i k low high l. getD-set-other w 1 (cell i k) x 0 (λ e. omega (arith, cell-least i k))
+        ∙ h .words i k low high l;
     beyond = drop-set-lt (storeLength n) w 1 x (omega arith) ∙ h .beyond;
   }
 
@@ -84,7 +87,8 @@ module _ {n : ℕ} {w : List ℕ} {count next tick : ℕ} {ss : List Slot} {r : 
     word1 = getD-set-other w 2 1 x 0 (omega arith) ∙ h .word1;
     word2 = getD-set-same w 2 x 0 l;
     word3 = getD-set-other w 2 3 x 0 (omega arith) ∙ h .word3;
-    words = λ i k low high l. getD-set-other w 2 (cell i k) x 0 (λ e. omega (arith, cell-least i k)) ∙ h .words i k low high l;
+    words = λ i k low high l. getD-set-other w 2 (cell i k) x 0 (λ e. omega (arith, cell-least i k))
+        ∙ h .words i k low high l;
     beyond = drop-set-lt (storeLength n) w 2 x (omega arith) ∙ h .beyond;
   }
 
@@ -100,11 +104,13 @@ module _ {n : ℕ} {w : List ℕ} {count next tick : ℕ} {ss : List Slot} {r : 
       rw (eqb-true j i e, getD-set-same ss (i - 1) s vacant (omega (arith, h .records))) (own k d))
       (λ e.
       let ne = eqb-false j i e in
-      rw (getD-set-other ss (i - 1) (j - 1) s vacant (λ q. ne (omega arith))) (others j k low d ne ∙ h .words j k low high d)))
+      rw (getD-set-other ss (i - 1) (j - 1) s vacant (λ q. ne (omega arith)))
+      (others j k low d ne ∙ h .words j k low high d)))
       beyond
 
   -- the words of a record
-  pub contents-written : (i : ℕ) → Record n w i → (s : Slot) (a c : ℕ) → Contents n (sets w (cell i 0) (recordOf s a c)) count next tick (set ss (i - 1) s) r
+  pub contents-written : (i : ℕ) → Record n w i → (s : Slot) (a c : ℕ)
+      → Contents n (sets w (cell i 0) (recordOf s a c)) count next tick (set ss (i - 1) s) r
   contents-written i at s a c =
       let ws = recordOf s a c in
       let size = recordOf-length s a c in
@@ -119,9 +125,14 @@ module _ {n : ℕ} {w : List ℕ} {count next tick : ℕ} {ss : List Slot} {r : 
   pub contents-entry : (i : ℕ) (t : StopEntry) → 1 ≤ i → i ≤ n → getD ss (i - 1) vacant ≡ held t → entryAt w i ≡ t
   unfolding entryAt dataWords withLinks
   contents-entry i t low high e =
-      let word : (k : ℕ) → IsData k → recordWord w i k ≡ dataWord (held t) k = λ k d. rw e at (h .words i k low high d) in
+      let word : (k : ℕ) → IsData k → recordWord w i k ≡ dataWord (held t) k =
+      λ k d. rw e at (h .words i k low high d) in
       λ x. record {
-        id = record { kind = (ap kindOf (word 0 (omega arith)) ∙ kindOf-number (t .id .kind)) x; high = word 1 (omega arith) x; low = word 2 (omega arith) x };
+        id = record {
+          kind = (ap kindOf (word 0 (omega arith)) ∙ kindOf-number (t .id .kind)) x;
+          high = word 1 (omega arith) x;
+          low = word 2 (omega arith) x;
+        };
         terms = record {
           side = (ap sideFrom (word 3 (omega arith)) ∙ sideFrom-number (t .terms .side)) x;
           stop = record { 0 = word 4 (omega arith) x };
@@ -132,6 +143,7 @@ module _ {n : ℕ} {w : List ℕ} {count next tick : ℕ} {ss : List Slot} {r : 
         seq = record { 0 = word 8 (omega arith) x };
       }
 
-  pub contents-rank : (c : Chain) (i : ℕ) (t : StopEntry) → 1 ≤ i → i ≤ n → getD ss (i - 1) vacant ≡ held t → rankAt c w i ≡ rankIn c ss i
+  pub contents-rank : (c : Chain) (i : ℕ) (t : StopEntry) → 1 ≤ i → i ≤ n → getD ss (i - 1) vacant ≡ held t
+      → rankAt c w i ≡ rankIn c ss i
   unfolding rankAt
   contents-rank c i t low high e = rw e (ap (rank c) (contents-entry i t low high e))

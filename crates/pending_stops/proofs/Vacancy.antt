@@ -31,7 +31,8 @@ ready-record n w ch i r = record { least = r .least; most = r .most; inside = r 
 pub stored-room : {n : ℕ} {w : List ℕ} {b : Book} {r : List ℕ} → Stored n w b r → headerLength ≤ length w
 stored-room st = omega (arith, stored-holds st .chained .inside .room)
 
-module _ (n : ℕ) (w : List ℕ) (b : Book) (r : List ℕ) (st : Stored n w b r) (side : Side) (i : ℕ) (m : Member side (b .slots) i) where
+module _ (n : ℕ) (w : List ℕ) (b : Book) (r : List ℕ) (st : Stored n w b r) (side : Side) (i : ℕ)
+    (m : Member side (b .slots) i) where
   abbrev stop : Pending
   stop = record { index = i; entry = m .entry }
 
@@ -50,9 +51,11 @@ module _ (n : ℕ) (w : List ℕ) (b : Book) (r : List ℕ) (st : Stored n w b r
   w1 = set w 1 (getD w 1 0 - 1)
 
   pub on1 : On n w1 (chainsOf b) side i
-  on1 = side-on b (st .valid) (st .fits) side i m n w1 (chained-set-header n w (chainsOf b) (stored-holds st .chained) 1 _ (omega arith))
+  on1 = side-on b (st .valid)
+      (st .fits) side i m n w1 (chained-set-header n w (chainsOf b) (stored-holds st .chained) 1 _ (omega arith))
 
-  module _ (w2 : List ℕ) (k2 : Kept n w1 w2) (u2 : (ch : StoreChain → List ℕ) → On n w1 ch side i → Ready n w2 (without side i ch) i) where
+  module _ (w2 : List ℕ) (k2 : Kept n w1 w2)
+      (u2 : (ch : StoreChain → List ℕ) → On n w1 ch side i → Ready n w2 (without side i ch) i) where
     ready2 : Ready n w2 (chainsWithout i b) i
     ready2 = unlinked-ready b (st .valid) (st .fits) side i m n w2 (u2 (chainsOf b) on1)
 
@@ -68,20 +71,26 @@ module _ (n : ℕ) (w : List ℕ) (b : Book) (r : List ℕ) (st : Stored n w b r
 
       pub blank3 : recordWord w3 i nextByWatermark ≡ 0
       blank3 =
-          rw e3 (sets-word n w2 i (recordOf vacant 0 0) few record2 nextByWatermark (omega (arith, recordOf-length vacant 0 0))
+          rw e3 (sets-word n w2 i (recordOf vacant 0 0) few record2 nextByWatermark
+          (omega (arith, recordOf-length vacant 0 0))
           ∙ withLinks-watermark (dataWords vacant) (slot-long vacant) 0 0)
 
-      contents3 : Contents n w3 (pendingCount (set (b .slots) (i - 1) vacant)) (b .next) (b .tick) (set (b .slots) (i - 1) vacant) r
+      contents3 : Contents n w3 (pendingCount (set (b .slots) (i - 1) vacant)) (b .next) (b .tick)
+          (set (b .slots) (i - 1) vacant) r
       contents3 =
           let count : getD w 1 0 - 1 ≡ pendingCount (set (b .slots) (i - 1) vacant) = omega (arith, count-before) in
-          let before = contents-kept (contents-count (stored-holds st .contents) (getD w 1 0 - 1) (omega (arith, stored-room st))) w2 k2 in
+          let before = contents-kept
+          (contents-count (stored-holds st .contents) (getD w 1 0 - 1) (omega (arith, stored-room st))) w2 k2 in
           rw (e3, ← count) (contents-written before i record2 vacant 0 0)
 
       pub vacated-length : (w4 : List ℕ) → Kept n w3 w4 → length w4 ≡ length w
       vacated-length w4 k4 = k4 .size ∙ rw (e3, length-sets) (k2 .size ∙ length-set w 1 (getD w 1 0 - 1))
 
-      pub vacated-stored : (w4 : List ℕ) → Kept n w3 w4 → ((ch : StoreChain → List ℕ) → Ready n w3 ch i → recordWord w3 i nextByWatermark ≡ 0 → Chained n w4 (upd Free (i ∷ ch Free) ch))
+      pub vacated-stored : (w4 : List ℕ) → Kept n w3 w4
+          → ((ch : StoreChain → List ℕ) → Ready n w3 ch i → recordWord w3 i nextByWatermark ≡ 0
+          → Chained n w4 (upd Free (i ∷ ch Free) ch))
           → Stored n w4 (vacated i b) r
       vacated-stored w4 k4 p4 =
-          pushed-stored b i (vacated-valid stop b (st .valid) member-in-book) (vacated-fits i b (st .fits)) n w3 r contents3 w4 k4
+          pushed-stored b i (vacated-valid stop b (st .valid) member-in-book)
+          (vacated-fits i b (st .fits)) n w3 r contents3 w4 k4
           (p4 (chainsWithout i b) ready3 blank3)

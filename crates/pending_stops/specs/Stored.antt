@@ -20,7 +20,8 @@ pub record Stored (n : ℕ) (w : List ℕ) (b : Book) (r : List ℕ) : Type 0 wh
 abbrev pub replaced : ℕ → StopEntry → ℕ → Book → Book
 replaced i t next b = record { next = next; tick = b .tick; slots = set (b .slots) (i - 1) (held t); free = b .free }
 
--- what the words of n records say apart from the chains: the header's first words, the data of the records, and the words r behind the store
+-- what the words of n records say apart from the chains: the header's first words, the data of the records, and the
+-- words r behind the store
 pub record Contents (n : ℕ) (w : List ℕ) (count next tick : ℕ) (ss : List Slot) (r : List ℕ) : Type 0 where
   pub records : length ss ≡ n
   pub word0 : getD w 0 0 ≡ n

@@ -1,5 +1,5 @@
--- A point is its steps: the sells trail, then the buys; then, unless the kill switch is on, the elected of the first side leave, and then
--- those of the second.
+-- A point is its steps: the sells trail, then the buys; then, unless the kill switch is on, the elected of the first
+-- side leave, and then those of the second.
 use Prim.Native.Nat.{ℕ, suc}
 use mathlib.Core.Path.{_≡_, refl, sym, ap, _∙_}
 use mathlib.Core.Bool.{Bool, true, false, not, cond}
@@ -65,7 +65,8 @@ trailedWhole price (held t) = held (trailed price t)
 module _ (d : Side) (price : Price) (t : StopEntry) (e : isSide d (sideOf t) ≡ false) where
   mover-away : mover price d (held t) ≡ none
   unfolding mover changedOn
-  mover-away = cases (eqb (stopOf (trailed price t)) (stopOf t)) (λ f. rw f) (λ f. rw (f, ofSide-isSide d (sideOf t) t, e))
+  mover-away = cases (eqb (stopOf (trailed price t)) (stopOf t)) (λ f. rw f)
+      (λ f. rw (f, ofSide-isSide d (sideOf t) t, e))
 
   elect-away : elect d price (held t) ≡ none
   unfolding elect leavingOn
@@ -109,7 +110,9 @@ module _ (d : Side) (price : Price) where
   elect-other vacant = refl
   elect-other (held t) = cases (isSide d (sideOf t))
       (λ e. let away = isSide-away d (sideOf t) e in
-      rw (stays-here d price t e) (elect-left-away (other d) price t away (electedAt (t .terms) price) ∙ sym (elect-away (other d) price t away)))
+      rw (stays-here d price t e)
+      (elect-left-away (other d) price t away (electedAt (t .terms) price)
+      ∙ sym (elect-away (other d) price t away)))
       (λ e. rw (stays-away d price t e))
 
   -- the elected of one side leave, then those of the other
@@ -119,7 +122,8 @@ module _ (d : Side) (price : Price) where
   stays-sides (held t) =
       let u : StopEntry = trailed price t in
       cases (isSide d (sideOf u))
-      (λ e. rw (stays-here d price u e) (rw (elect-left-away (other d) price u (isSide-away d (sideOf u) e) (electedAt (u .terms) price))))
+      (λ e. rw (stays-here d price u e)
+      (rw (elect-left-away (other d) price u (isSide-away d (sideOf u) e) (electedAt (u .terms) price))))
       (λ e. rw (stays-away d price u e) (stays-here (other d) price u (rw (isSide-other d (sideOf u), e))))
 
   -- what leaves after trailing
@@ -145,12 +149,17 @@ killed-leaver price d (held t) = refl
 module _ (price : Price) (b : Book) where
   trailedBoth-slots : trailedBoth price b .slots ≡ map (trailedWhole price) (b .slots)
   unfolding trailedBoth trailedOn other
-  trailedBoth-slots = map-map (trailedSlot Buy price) (trailedSlot Sell price) (b .slots) ∙ map-same _ _ (trailedSlot-sides Sell price) (b .slots)
+  trailedBoth-slots = map-map (trailedSlot Buy price) (trailedSlot Sell price) (b .slots)
+      ∙ map-same _ _ (trailedSlot-sides Sell price) (b .slots)
 
   pub electedIn-trailed : (d : Side) → electedIn d price (trailedBoth price b) ≡ electedOn false price d b
   unfolding electedIn electedOn
   electedIn-trailed d =
-      rw (trailedBoth-slots, gather-same (leaver false price d) (elect d price) (trailedWhole price) (elect-trailed d price) 1 (b .slots))
+      rw (
+        trailedBoth-slots,
+        gather-same (leaver false price d) (elect d price) (trailedWhole price)
+            (elect-trailed d price) 1 (b .slots),
+      )
 
   pub electedIn-other : (d : Side) → electedIn (other d) price (takenOn d price b) ≡ electedIn (other d) price b
   unfolding electedIn takenOn
@@ -164,10 +173,21 @@ module _ (price : Price) (b : Book) where
 -- A point
 
 module _ (price : Price) (b : Book) where
-  electedBy-steps : (first : Bool) → electedBy false first price b ≡ electedBoth (firstSide first) price (trailedBoth price b)
+  electedBy-steps : (first : Bool)
+      → electedBy false first price b ≡ electedBoth (firstSide first) price (trailedBoth price b)
   unfolding electedBy electedBoth firstSide other
-  electedBy-steps true = rw (electedIn-other price (trailedBoth price b) Sell, electedIn-trailed price b Sell, electedIn-trailed price b Buy)
-  electedBy-steps false = rw (electedIn-other price (trailedBoth price b) Buy, electedIn-trailed price b Buy, electedIn-trailed price b Sell)
+  electedBy-steps true =
+      rw (
+        electedIn-other price (trailedBoth price b) Sell,
+        electedIn-trailed price b Sell,
+        electedIn-trailed price b Buy,
+      )
+  electedBy-steps false =
+      rw (
+        electedIn-other price (trailedBoth price b) Buy,
+        electedIn-trailed price b Buy,
+        electedIn-trailed price b Sell,
+      )
 
   electedOn-killed : (d : Side) → electedOn true price d b ≡ []
   unfolding electedOn sortBy
@@ -182,21 +202,27 @@ module _ (price : Price) (b : Book) where
   unfolding takenBoth takenOn
   taken-slots d =
       rw (trailedBoth-slots price b, map-map (stays d price) (trailedWhole price) (b .slots))
-      (map-map (stays (other d) price) (λ s. stays d price (trailedWhole price s)) (b .slots) ∙ map-same _ _ (stays-sides d price) (b .slots))
+      (map-map (stays (other d) price) (λ s. stays d price (trailedWhole price s)) (b .slots)
+      ∙ map-same _ _ (stays-sides d price) (b .slots))
 
-  taken-free : (d : Side) → takenBoth d price (trailedBoth price b) .free ≡ freed (electedBoth d price (trailedBoth price b)) (b .free)
+  taken-free : (d : Side)
+      → takenBoth d price (trailedBoth price b) .free ≡ freed (electedBoth d price (trailedBoth price b)) (b .free)
   unfolding takenBoth takenOn electedBoth trailedBoth trailedOn
   taken-free d = sym (freed-append _ _ _)
 
-  pub point-moved : (kill first : Bool) → point kill first price b .moved ≡ movedOn price Sell b ++ movedOn price Buy (trailedOn Sell price b)
+  pub point-moved : (kill first : Bool)
+      → point kill first price b .moved ≡ movedOn price Sell b ++ movedOn price Buy (trailedOn Sell price b)
   unfolding point movedBy other
   point-moved kill first = rw (movedOn-other price b Sell)
 
-  pub point-fills : (first : Bool) → point false first price b .fills ≡ map (fillAt price) (electedBoth (firstSide first) price (trailedBoth price b))
+  pub point-fills : (first : Bool)
+      → point false first price b .fills ≡ map (fillAt price)
+      (electedBoth (firstSide first) price (trailedBoth price b))
   unfolding point
   point-fills first = rw (electedBy-steps first)
 
-  pub point-book : (first : Bool) → point false first price b .book ≡ takenBoth (firstSide first) price (trailedBoth price b)
+  pub point-book : (first : Bool)
+      → point false first price b .book ≡ takenBoth (firstSide first) price (trailedBoth price b)
   unfolding point takenBoth takenOn trailedBoth trailedOn
   point-book first = λ i. record {
     next = b .next;

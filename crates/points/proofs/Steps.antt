@@ -31,7 +31,8 @@ pub run-on : {A B : Type 0} (words : A → B) (xs ys : List A) (l k j : List B) 
 run-on words xs ys l k j at m end e f g h =
     let first : m ≡ at + length (map words xs) = rw length-map e in (
       rw length-append (omega (arith, e, g)),
-      h ∙ ap (λ q. sets q m (map words ys)) f ∙ sets-on (map words xs) (map words ys) l at m first ∙ ap (sets l at) (sym (map-append words xs ys)),
+      h ∙ ap (λ q. sets q m (map words ys)) f ∙ sets-on (map words xs) (map words ys) l at m first
+          ∙ ap (sets l at) (sym (map-append words xs ys)),
     )
 
 ------------------------------------------------------------------------
@@ -40,7 +41,8 @@ run-on words xs ys l k j at m end e f g h =
 -- those of a side: the words w become v, and m stop prices are others
 abbrev pub Trails : Side → Price → ℕ → List ℕ → List ℕ → ℕ → Type 0
 Trails side price n w v m =
-    (b : Book) (r : List ℕ) → Stored n w b r → (m ≡ length (movedOn price side b)) × Stored n v (trailedOn side price b) r
+    (b : Book) (r : List ℕ) → Stored n w b r
+    → (m ≡ length (movedOn price side b)) × Stored n v (trailedOn side price b) r
 
 module _ (price : Price) {n : ℕ} {w v : List ℕ} (m : ℕ) (sells : Trails Sell price n w v m) where
   module _ {x : List ℕ} (k : ℕ) (buys : Trails Buy price n v x k) (b : Book) (r : List ℕ) (st : Stored n w b r) where
@@ -76,23 +78,32 @@ ElectsBoth first price n w v l k at end =
     × Stored n v (takenBoth first price b) r
 
 module _ (d : Side) (price : Price) where
-  pub first-room : (b : Book) (at room : ℕ) → at + length (electedBoth d price b) ≤ room → at + length (electedIn d price b) ≤ room
+  pub first-room : (b : Book) (at room : ℕ) → at + length (electedBoth d price b) ≤ room
+      → at + length (electedIn d price b) ≤ room
   unfolding electedBoth
-  first-room b at room h = omega (arith, h, length-append (electedIn d price b) (electedIn (other d) price (takenOn d price b)))
+  first-room b at room h =
+      omega (arith, h, length-append (electedIn d price b) (electedIn (other d) price (takenOn d price b)))
 
   module _ {n : ℕ} {w v : List ℕ} (l k : List (List ℕ)) (at m : ℕ) (first : Elects d price n w v l k at m) where
     pub second-room : {b : Book} {r : List ℕ} (room : ℕ) → Stored n w b r → at + length (electedBoth d price b) ≤ room
         → m + length (electedIn (other d) price (takenOn d price b)) ≤ room
     unfolding electedBoth
     second-room {b = b} {r = r} room st h =
-        omega (arith, h, length-append (electedIn d price b) (electedIn (other d) price (takenOn d price b)), first b r st .0)
+        omega (
+          arith,
+          h,
+          length-append (electedIn d price b) (electedIn (other d) price (takenOn d price b)),
+          first b r st .0,
+        )
 
-    pub elected-both : {x : List ℕ} (j : List (List ℕ)) (end : ℕ) → Elects (other d) price n v x k j m end → ElectsBoth d price n w x l j at end
+    pub elected-both : {x : List ℕ} (j : List (List ℕ)) (end : ℕ) → Elects (other d) price n v x k j m end
+        → ElectsBoth d price n w x l j at end
     unfolding electedBoth takenBoth
     elected-both j end second b r st =
         let (e, f, one) = first b r st in
         let (g, h, two) = second _ r one in
-        let (end, list) = run-on _ (electedIn d price b) (electedIn (other d) price (takenOn d price b)) _ _ _ _ _ _ e f g h in
+        let (end, list) = run-on _ (electedIn d price b)
+        (electedIn (other d) price (takenOn d price b)) _ _ _ _ _ _ e f g h in
         (end, list, two)
 
 ------------------------------------------------------------------------
@@ -109,7 +120,8 @@ ListsMoves price n w l k at end =
     → (end ≡ at + length (movedBy price b)) × (k ≡ sets l at (map movedWords (movedBy price b)))
 
 module _ (price : Price) where
-  pub sells-room : (b : Book) (at room : ℕ) → at + length (movedBy price b) ≤ room → at + length (movedOn price Sell b) ≤ room
+  pub sells-room : (b : Book) (at room : ℕ) → at + length (movedBy price b) ≤ room
+      → at + length (movedOn price Sell b) ≤ room
   unfolding movedBy
   sells-room b at room h = omega (arith, h, length-append (movedOn price Sell b) (movedOn price Buy b))
 
@@ -117,7 +129,8 @@ module _ (price : Price) where
     pub buys-room : {b : Book} {r : List ℕ} (room : ℕ) → Stored n w b r → at + length (movedBy price b) ≤ room
         → m + length (movedOn price Buy b) ≤ room
     unfolding movedBy
-    buys-room {b = b} {r = r} room st h = omega (arith, h, length-append (movedOn price Sell b) (movedOn price Buy b), sells b r st .0)
+    buys-room {b = b} {r = r} room st h =
+        omega (arith, h, length-append (movedOn price Sell b) (movedOn price Buy b), sells b r st .0)
 
     pub moved-both : (j : List (List ℕ)) (end : ℕ) → ListsOn Buy price n w k j m end → ListsMoves price n w l j at end
     unfolding movedBy

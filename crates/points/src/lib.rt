@@ -32,7 +32,8 @@ fn trail_both(s: &mut [u64], n: u64, price: Price) -> u64
     sells + buys
 }
 
-// The elected stops of a side leave the store, and their fills go into the list, from a place on. Answers where the list goes on.
+// The elected stops of a side leave the store, and their fills go into the list, from a place on. Answers where the
+// list goes on.
 fn elect_on(
     s: &mut [u64],
     n: u64,
@@ -81,7 +82,8 @@ pub struct Points {
     pub at: usize,
 }
 
-// A point at a price: the stops trail, and then, unless the kill switch is on, the elected leave and their fills go into the list.
+// A point at a price: the stops trail, and then, unless the kill switch is on, the elected leave and their fills go
+// into the list.
 pub fn point(
     s: &mut [u64],
     n: u64,

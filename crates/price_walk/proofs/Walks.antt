@@ -42,7 +42,8 @@ then-then o p q = λ i. record {
 
 module _ (kill falls : Bool) where
   pub walkFrom-more : (from : LastPrice) (ps : List Price) (p : Price) (b : Book)
-      → andThen (walkFrom kill falls from ps b) (point kill (sellsFirst falls (arrived from ps) p) p (walkFrom kill falls from ps b .book))
+      → andThen (walkFrom kill falls from ps b)
+      (point kill (sellsFirst falls (arrived from ps) p) p (walkFrom kill falls from ps b .book))
       ≡ walkFrom kill falls from (ps ++ (p ∷ [])) b
   unfolding walkFrom arrived andThen
   walkFrom-more from [] p b = sym (then-none _)
@@ -54,7 +55,8 @@ module _ (kill falls : Bool) where
 
   -- as many fewer are pending
   pub walkFrom-count : (from : LastPrice) (ps : List Price) (b : Book)
-      → pendingCount (b .slots) ≡ pendingCount (walkFrom kill falls from ps b .book .slots) + length (walkFrom kill falls from ps b .fills)
+      → pendingCount (b .slots) ≡ pendingCount (walkFrom kill falls from ps b .book .slots) + length
+      (walkFrom kill falls from ps b .fills)
   walkFrom-count from ps b = points-count kill (walkFrom-points kill falls from ps b)
 
 ------------------------------------------------------------------------
@@ -81,7 +83,8 @@ walk-words kill prev (x ∷ xs) b h =
 -- The loop
 
 -- points stand at i of the prices
-pub record Walked (kill falls : Bool) (prev : LastPrice) (prices : List ℕ) (n : ℕ) (w v : List ℕ) (l k : List (List ℕ)) (from : LastPrice)
+pub record Walked (kill falls : Bool) (prev : LastPrice) (prices : List ℕ) (n : ℕ) (w v : List ℕ) (l k : List (List ℕ))
+    (from : LastPrice)
     (moves at i : ℕ) : Type 0 where
   pub few : i ≤ length prices
   pub words : length v ≡ length w
@@ -102,7 +105,8 @@ module _ {kill falls : Bool} {prev : LastPrice} {prices : List ℕ} {n : ℕ} {w
     does = λ b r st. (refl, omega arith, refl, st);
   }
 
-  module _ {v : List ℕ} {k : List (List ℕ)} {from : LastPrice} {moves at i : ℕ} (h : Walked kill falls prev prices n w v l k from moves at i) where
+  module _ {v : List ℕ} {k : List (List ℕ)} {from : LastPrice} {moves at i : ℕ}
+      (h : Walked kill falls prev prices n w v l k from moves at i) where
     -- there is room for what the next point takes out
     pub walked-room : {b : Book} {r : List ℕ} → Stored n w b r → pendingCount (b .slots) ≤ length l
         → (c : Book) × (q : List ℕ) × Stored n v c q × (at + pendingCount (c .slots) ≤ length k)
@@ -111,14 +115,16 @@ module _ {kill falls : Bool} {prev : LastPrice} {prices : List ℕ} {n : ℕ} {w
         (_, r, now, omega (arith, room, f, h .size, walkFrom-count kill falls prev (map toPrice (take i prices)) b))
 
     module _ (inside : i < length prices) {x : List ℕ} {j : List (List ℕ)} (m end : ℕ)
-        (does : Does (point kill (sellsFirst falls from (toPrice (getD prices i 0))) (toPrice (getD prices i 0))) n v x k j at m end) where
+        (does : Does (point kill (sellsFirst falls from (toPrice (getD prices i 0)))
+        (toPrice (getD prices i 0))) n v x k j at m end) where
       pub point-moves-few : {b : Book} {r : List ℕ} → Stored n w b r → m ≤ mostRecords
       point-moves-few {b = b} {r = r} st = point-few _ _ _ _ _ _ _ _ does (h .does b r st .3)
 
       more : map toPrice (take i prices) ++ (toPrice (getD prices i 0) ∷ []) ≡ map toPrice (take (i + 1) prices)
       more =
           let e : i + 1 ≡ suc i = omega arith in
-          rw e (sym (ap (map toPrice) (take-suc prices i 0 inside) ∙ map-append toPrice (take i prices) (getD prices i 0 ∷ [])))
+          rw e (sym (ap (map toPrice) (take-suc prices i 0 inside)
+          ∙ map-append toPrice (take i prices) (getD prices i 0 ∷ [])))
 
       pub walked-next : {b : Book} {r : List ℕ} → Stored n w b r → length x ≡ length v → length j ≡ length k
           → Walked kill falls prev prices n w x l j (last.At (toPrice (getD prices i 0))) (moves + m) end (i + 1)
@@ -126,20 +132,25 @@ module _ {kill falls : Bool} {prev : LastPrice} {prices : List ℕ} {n : ℕ} {w
         few = omega (arith, inside);
         words = p ∙ h .words;
         size = q ∙ h .size;
-        arrival = sym (arrived-more prev (map toPrice (take i prices)) (toPrice (getD prices i 0))) ∙ ap (arrived prev) more;
+        arrival = sym (arrived-more prev (map toPrice (take i prices)) (toPrice (getD prices i 0)))
+            ∙ ap (arrived prev) more;
         few-moves = omega (arith, h .few-moves, point-moves-few st);
         does = does-same _ (walkFrom kill falls prev (map toPrice (take (i + 1) prices)))
             (λ b. walkFrom-more kill falls prev (map toPrice (take i prices)) (toPrice (getD prices i 0)) b
             ∙ ap (λ ps. walkFrom kill falls prev ps b) more) l j 0 (moves + m) end
             (does-then (walkFrom kill falls prev (map toPrice (take i prices)))
-            (point kill (sellsFirst falls (arrived prev (map toPrice (take i prices))) (toPrice (getD prices i 0))) (toPrice (getD prices i 0)))
+            (point kill (sellsFirst falls (arrived prev (map toPrice (take i prices))) (toPrice (getD prices i 0)))
+            (toPrice (getD prices i 0)))
             l k j 0 moves at m end (h .does) (rw (h .arrival) at does));
       }
 
-  pub walked-last : {v : List ℕ} {k : List (List ℕ)} {from : LastPrice} {moves at i : ℕ} → Walked kill falls prev prices n w v l k from moves at i
+  pub walked-last : {v : List ℕ} {k : List (List ℕ)} {from : LastPrice} {moves at i : ℕ}
+      → Walked kill falls prev prices n w v l k from moves at i
       → falls ≡ wordsFall prices → 1 ≤ length prices → length prices ≤ i → (b : Book) (r : List ℕ) → Stored n w b r
-      → (moves ≡ length (walk kill prev (map toPrice prices) b .moved)) × (at ≡ length (walk kill prev (map toPrice prices) b .fills))
-      × (k ≡ sets l 0 (map fillWords (walk kill prev (map toPrice prices) b .fills))) × Stored n v (walk kill prev (map toPrice prices) b .book) r
+      → (moves ≡ length (walk kill prev (map toPrice prices) b .moved))
+      × (at ≡ length (walk kill prev (map toPrice prices) b .fills))
+      × (k ≡ sets l 0 (map fillWords (walk kill prev (map toPrice prices) b .fills)))
+      × Stored n v (walk kill prev (map toPrice prices) b .book) r
   walked-last {i = i} h f some all b r st =
       let same : walkFrom kill falls prev (map toPrice (take i prices)) b ≡ walk kill prev (map toPrice prices) b =
       rw (take-all i prices all, f) (walk-words kill prev prices b some) in

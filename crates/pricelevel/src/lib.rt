@@ -1,5 +1,5 @@
-// The value types that orderbook-rs takes from its crate pricelevel: prices, quantities, sides and identities, at 64 bits;
-// and the admission sequence, which document 01 makes a kind of number of its own.
+// The value types that orderbook-rs takes from its crate pricelevel: prices, quantities, sides and identities, at 64
+// bits; and the admission sequence, which document 01 makes a kind of number of its own.
 ghost use mathlib.Core.Path.{_≡_};
 ghost use Rattle.pricelevel.specs.Identity.{kindNumber, sameId};
 ghost use Rattle.pricelevel.specs.Side.{sideNumber};

@@ -1,5 +1,5 @@
-// The print path by value: the recorder of a sweep's first print, from orderbook-rs's stop_orders.rs. Each call answers the path
-// after it.
+// The print path by value: the recorder of a sweep's first print, from orderbook-rs's stop_orders.rs. Each call answers
+// the path after it.
 use book::LastPrice;
 use book::PrintPath;
 use book::PrintSegment;

@@ -1,4 +1,5 @@
-// The three groups of records, sells, buys and free: to which a record belongs, how many each has, and where its chain starts.
+// The three groups of records, sells, buys and free: to which a record belongs, how many each has, and where its chain
+// starts.
 use book::Chain;
 use book::NEXT_BY_STOP;
 use book::StoreChain;

@@ -1,4 +1,5 @@
-// The words of a record and of the header: where they stand, reading and writing them, and the rank that orders a chain.
+// The words of a record and of the header: where they stand, reading and writing them, and the rank that orders a
+// chain.
 use book::Chain;
 use book::HEADER_WORDS;
 use book::NEXT_BY_STOP;

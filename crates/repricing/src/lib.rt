@@ -1,5 +1,5 @@
-// The preview of a trailing stop, from orderbook-rs's repricing.rs: the stop price that a market price leads to. It reports
-// only moves of the stop, so that a caller who takes the watermark from it falls behind the pending stop's own.
+// The preview of a trailing stop, from orderbook-rs's repricing.rs: the stop price that a market price leads to. It
+// reports only moves of the stop, so that a caller who takes the watermark from it falls behind the pending stop's own.
 use pricelevel::Price;
 use pricelevel::Side;
 use stop_terms::Candidate;

@@ -29,7 +29,8 @@ module _ (script : List ℕ) (used : ℕ) (e : Elected) (es : List Elected) wher
   behind : scriptEntryLength * (used + first .used) ≡ scriptEntryLength * used + scriptEntryLength * (first .used)
   behind = omega arith
 
-  executed-segments-on : executed (drop (scriptEntryLength * used) script) (e ∷ es) .segments ≡ first .segments ++ others .segments
+  executed-segments-on : executed (drop (scriptEntryLength * used) script)
+      (e ∷ es) .segments ≡ first .segments ++ others .segments
   unfolding executed
   executed-segments-on = rw (behind, ← drop-drop)
 
@@ -38,13 +39,21 @@ module _ (script : List ℕ) (used : ℕ) (e : Elected) (es : List Elected) wher
   executed-used-on = rw (behind, ← drop-drop)
 
   -- of a formed script no more than there are
-  first-within : scriptFormed script ≡ true → scriptEntryLength * used ≤ length script → scriptEntryLength * (used + first .used) ≤ length script
+  first-within : scriptFormed script ≡ true → scriptEntryLength * used ≤ length script
+      → scriptEntryLength * (used + first .used) ≤ length script
   first-within f h =
       let (n, l) = scriptFormed-length script f in
-      omega (arith, l, h, executeOne-used (drop (scriptEntryLength * used) script) e (n - used) (script-left script n used l))
+      omega (
+        arith,
+        l,
+        h,
+        executeOne-used (drop (scriptEntryLength * used) script) e (n - used)
+            (script-left script n used l),
+      )
 
 -- the elected es of a list have executed up to entry i: those that are left, and the segments so far
-pub record Progress (list : List (List ℕ)) (to : ℕ) (script : List ℕ) (es : List Elected) (words : List (List ℕ)) (tail : ℕ)
+pub record Progress (list : List (List ℕ)) (to : ℕ) (script : List ℕ) (es : List Elected) (words : List (List ℕ))
+    (tail : ℕ)
     (words′ : List (List ℕ)) (used tail′ i : ℕ) (left : List Elected) : Type 0 where
   pub flags : Flags list i left
   pub ends : to ≡ i + length left
@@ -56,7 +65,8 @@ pub record Progress (list : List (List ℕ)) (to : ℕ) (script : List ℕ) (es 
   pub within : scriptEntryLength * used ≤ length script
 
 module _ {list : List (List ℕ)} {to : ℕ} {script : List ℕ} {es : List Elected} {words : List (List ℕ)} {tail : ℕ} where
-  pub progress-start : (from : ℕ) → Flags list from es → to ≡ from + length es → Progress list to script es words tail words 0 tail from es
+  pub progress-start : (from : ℕ) → Flags list from es → to ≡ from + length es
+      → Progress list to script es words tail words 0 tail from es
   progress-start from flags ends = record {
     flags = flags;
     ends = ends;
@@ -85,9 +95,11 @@ module _ {list : List (List ℕ)} {to : ℕ} {script : List ℕ} {es : List Elec
             ends = omega (arith, p .ends);
             done = p .done ++ one .segments;
             adds = enqueued-then (p .adds) (a .adds);
-            segments = rw (a .uses, append-assoc) (p .segments ∙ ap (λ l. p .done ++ l) (executed-segments-on script used e left));
+            segments = rw (a .uses, append-assoc)
+                (p .segments ∙ ap (λ l. p .done ++ l) (executed-segments-on script used e left));
             uses = rw (a .uses) (omega (arith, p .uses, executed-used-on script used e left));
-            few = rw length-append (omega (arith, p .few, executeOne-segments (drop (scriptEntryLength * used) script) e));
+            few = rw length-append
+                (omega (arith, p .few, executeOne-segments (drop (scriptEntryLength * used) script) e));
             within = rw (a .uses) (first-within script used e left f (p .within));
           },
         )
@@ -120,6 +132,9 @@ module _ (entryWords : Elected → List ℕ) (last : (e : Elected) → getD (ent
   flags-written list from [] room = tt
   flags-written list from (e ∷ es) room =
       let here : from < length list = omega (arith, room) in (
-        rw (getD-sets-before (map entryWords es) (set list from (entryWords e)) from (suc from) [] (omega arith), getD-set-same) (last e),
+        rw (
+          getD-sets-before (map entryWords es) (set list from (entryWords e)) from (suc from) [] (omega arith),
+          getD-set-same,
+        ) (last e),
         flags-written (set list from (entryWords e)) (suc from) es (rw length-set (omega (arith, room))),
       )

@@ -32,17 +32,24 @@ module _ (e : Elected) (pending : ℕ) (is : pending ≡ pendingWord e) where
     -- its child identity is pending
     pub one-pending : pending ≡ 1 → Advanced (executeOne script e) used words tail used words tail
     unfolding executeOne
-    one-pending h = rw (pending-true h) (record { uses = omega arith; adds = record { stand = refl; ends = omega arith } })
+    one-pending h = rw (pending-true h) (record {
+      uses = omega arith;
+      adds = record { stand = refl; ends = omega arith };
+    })
 
     -- no entry is left
     pub one-missing : length script ≡ 0 → Advanced (executeOne script e) used words tail used words tail
     unfolding executeOne
-    one-missing h = cases (e .pending) (λ f. rw f (record { uses = omega arith; adds = record { stand = refl; ends = omega arith } }))
+    one-missing h = cases (e .pending) (λ f. rw f (record {
+      uses = omega arith;
+      adds = record { stand = refl; ends = omega arith };
+    }))
         (λ f. rw (f, eq-eqb _ _ h) (record { uses = omega arith; adds = record { stand = refl; ends = omega arith } }))
 
     -- it uses an entry
     pub one-entry : (pending ≡ 1 → ⊥) → 0 < length script → (words′ : List (List ℕ)) (tail′ : ℕ)
-        → Enqueued (scriptSegment script) words tail words′ tail′ → Advanced (executeOne script e) used words tail (used + 1) words′ tail′
+        → Enqueued (scriptSegment script) words tail words′ tail′
+        → Advanced (executeOne script e) used words tail (used + 1) words′ tail′
     unfolding executeOne
     one-entry h some words′ tail′ put =
         let left : length script ≡ 0 → ⊥ = λ z. omega arith in

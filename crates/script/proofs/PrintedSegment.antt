@@ -19,7 +19,8 @@ module _ (script : List ℕ) (at : ℕ) (words : List (List ℕ)) (tail : ℕ) w
   printed-none h = simp (getD-drop, add-zero, ne-eqb _ _ h) (record { stand = refl; ends = omega arith })
 
   pub printed-after : getD script at 0 ≡ 1 → getD script (at + 1) 0 ≡ 1
-      → Printed (set words tail (1 ∷ getD script (at + 2) 0 ∷ getD script (at + 3) 0 ∷ getD script (at + 4) 0 ∷ [])) (tail + 1)
+      → Printed (set words tail (1 ∷ getD script (at + 2) 0 ∷ getD script (at + 3) 0 ∷ getD script (at + 4) 0 ∷ []))
+      (tail + 1)
   unfolding scriptSegment scriptPrev segmentWords wordsFrom
   printed-after h k = simp (getD-drop, add-zero, eq-eqb _ _ h, eq-eqb _ _ k) (record { stand = refl; ends = refl })
 

@@ -20,7 +20,11 @@ unfolding segmentWords segmentFrom prevFrom wordsFrom
 segment-back s = back (s .prev)
   where
     back : (prev : LastPrice)
-        → segmentFrom (wordsFrom prev (s .first .0 ∷ s .last .0 ∷ [])) ≡ record { prev = prev; first = s .first; last = s .last }
+        → segmentFrom (wordsFrom prev (s .first .0 ∷ s .last .0 ∷ [])) ≡ record {
+          prev = prev;
+          first = s .first;
+          last = s .last;
+        }
     back last.None = refl
     back (last.At price) = refl
 
@@ -37,7 +41,8 @@ module _ {words : List (List ℕ)} {head tail : ℕ} where
       → getD words head [] ∷ slice (suc head) tail words ≡ segmentWords s ∷ map segmentWords q
   queued-stands h = sym (slice-cons head tail words [] (omega (arith, h .ends)) (h .room)) ∙ h .stand
 
-  pub queued-first : (q : List PrintSegment) → Queued words head tail q → (head ≡ tail → ⊥) → firstOf q ≡ some (segmentFrom (getD words head []))
+  pub queued-first : (q : List PrintSegment) → Queued words head tail q → (head ≡ tail → ⊥)
+      → firstOf q ≡ some (segmentFrom (getD words head []))
   unfolding firstOf
   queued-first [] h d = absurd (d (omega (arith, h .ends)))
   queued-first (s ∷ q) h d =
@@ -45,7 +50,8 @@ module _ {words : List (List ℕ)} {head tail : ℕ} where
       rw e (ap some (sym (segment-back s)))
 
   -- the queue after its first segment
-  pub queued-next : {s : PrintSegment} {q : List PrintSegment} → Queued words head tail (s ∷ q) → Queued words (head + 1) tail q
+  pub queued-next : {s : PrintSegment} {q : List PrintSegment} → Queued words head tail (s ∷ q)
+      → Queued words (head + 1) tail q
   queued-next {s} {q} h =
       let e : slice (suc head) tail words ≡ map segmentWords q = cc (queued-stands h) in
       record { stand = rw add-one e; ends = omega (arith, h .ends); room = h .room }
@@ -56,7 +62,8 @@ unfolding firstOf
 firstOf-none [] e = refl
 firstOf-none (s ∷ q) e = let z : _≡_ {A = ℕ} 0 1 = cc in absurd (omega arith)
 
-pub firstOf-some : (q : List PrintSegment) (s : PrintSegment) → firstOf q ≡ some s → (rest : List PrintSegment) × (q ≡ s ∷ rest)
+pub firstOf-some : (q : List PrintSegment) (s : PrintSegment) → firstOf q ≡ some s
+    → (rest : List PrintSegment) × (q ≡ s ∷ rest)
 unfolding firstOf
 firstOf-some [] s e = let z : _≡_ {A = ℕ} 0 1 = cc in absurd (omega arith)
 firstOf-some (t ∷ q) s e = (q, cc)
@@ -68,7 +75,8 @@ pub queued-none : (words : List (List ℕ)) (head : ℕ) → head ≤ length wor
 queued-none words head h = record { stand = slice-empty head words; ends = omega arith; room = h }
 
 -- the queue with segments put behind it
-pub queued-more : {words words′ : List (List ℕ)} {head tail tail′ : ℕ} {q more : List PrintSegment} → Queued words head tail q
+pub queued-more : {words words′ : List (List ℕ)} {head tail tail′ : ℕ} {q more : List PrintSegment}
+    → Queued words head tail q
     → Enqueued more words tail words′ tail′ → tail′ ≤ length words → Queued words′ head tail′ (q ++ more)
 queued-more {words} {head = head} {tail = tail} {q = q} {more = more} h put room =
     let new : List (List ℕ) = map segmentWords more in
@@ -93,14 +101,18 @@ queued-more {words} {head = head} {tail = tail} {q = q} {more = more} h put room
 -- a queue that is written from head on
 pub queued-sets : (words : List (List ℕ)) (head : ℕ) (q : List PrintSegment) → head + length q ≤ length words
     → Queued (sets words head (map segmentWords q)) head (head + length q) q
-queued-sets words head q room = queued-more (queued-none words head (omega (arith, room))) (record { stand = refl; ends = refl }) room
+queued-sets words head q room = queued-more (queued-none words head (omega (arith, room))) (record {
+  stand = refl;
+  ends = refl;
+}) room
 
 -- segments put behind the queue one after another
 pub enqueued-none : (words : List (List ℕ)) (tail : ℕ) → Enqueued [] words tail words tail
 enqueued-none words tail = record { stand = refl; ends = omega arith }
 
 pub enqueued-then : {xs ys : List PrintSegment} {words words′ words″ : List (List ℕ)} {tail tail′ tail″ : ℕ}
-    → Enqueued xs words tail words′ tail′ → Enqueued ys words′ tail′ words″ tail″ → Enqueued (xs ++ ys) words tail words″ tail″
+    → Enqueued xs words tail words′ tail′ → Enqueued ys words′ tail′ words″ tail″
+    → Enqueued (xs ++ ys) words tail words″ tail″
 enqueued-then {xs} {ys} {words} {tail = tail} h k =
     let n : tail + length xs ≡ tail + length (map segmentWords xs) = rw length-map in
     record {
@@ -108,6 +120,7 @@ enqueued-then {xs} {ys} {words} {tail = tail} h k =
       ends = rw (k .ends, h .ends, length-append) (omega arith);
     }
 
-pub enqueued-length : {more : List PrintSegment} {words words′ : List (List ℕ)} {tail tail′ : ℕ} → Enqueued more words tail words′ tail′
+pub enqueued-length : {more : List PrintSegment} {words words′ : List (List ℕ)} {tail tail′ : ℕ}
+    → Enqueued more words tail words′ tail′
     → length words′ ≡ length words
 enqueued-length h = rw (h .stand, length-sets)

@@ -45,7 +45,8 @@ formed-next (a ∷ b ∷ c ∷ d ∷ []) e = absurd (false≢true e)
 formed-next (a ∷ b ∷ c ∷ d ∷ f ∷ l) e = and-parts (leb a 1 && leb b 1) (scriptFormed l) e .1
 
 -- and behind its first entries
-pub formed-drop : (l : List ℕ) (used : ℕ) → scriptFormed l ≡ true → scriptFormed (drop (scriptEntryLength * used) l) ≡ true
+pub formed-drop : (l : List ℕ) (used : ℕ) → scriptFormed l ≡ true
+    → scriptFormed (drop (scriptEntryLength * used) l) ≡ true
 formed-drop l zero e = e
 formed-drop l (suc used) e =
     let step : scriptEntryLength * suc used ≡ scriptEntryLength + scriptEntryLength * used = omega arith in
@@ -71,12 +72,15 @@ module _ {script : List ℕ} {at : ℕ} (f : FormedFrom script at) where
   formed-end h = rw (f .same, drop-of-length-le script h)
 
   pub formed-rest : at < length script → length script - at < scriptEntryLength → scriptFormed script ≡ false
-  formed-rest some few = f .same ∙ formed-part (drop at script) (rw length-drop (omega arith)) (rw length-drop (omega arith))
+  formed-rest some few =
+      f .same ∙ formed-part (drop at script) (rw length-drop (omega arith)) (rw length-drop (omega arith))
 
   module _ (whole : scriptEntryLength ≤ length script - at) where
     formed-at : scriptFormed script
-        ≡ ((leb (getD script at 0) 1 && leb (getD script (at + 1) 0) 1) && scriptFormed (drop (at + scriptEntryLength) script))
-    formed-at = f .same ∙ simp (getD-drop, drop-drop, add-zero) at (formed-entry (drop at script) (rw length-drop whole))
+        ≡ ((leb (getD script at 0) 1 && leb (getD script (at + 1) 0) 1) && scriptFormed
+        (drop (at + scriptEntryLength) script))
+    formed-at = f .same ∙ simp (getD-drop, drop-drop, add-zero) at
+        (formed-entry (drop at script) (rw length-drop whole))
 
     pub formed-not-printed : 1 < getD script at 0 → scriptFormed script ≡ false
     formed-not-printed h = rw (formed-at, lt-leb _ _ h)

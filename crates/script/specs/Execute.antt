@@ -18,6 +18,7 @@ Flags list from [] = Unit {0}
 Flags list from (e ∷ es) = (getD (getD list from []) 12 0 ≡ pendingWord e) × Flags list (suc from) es
 
 -- elected have executed so: the script entries that are used, the queue's list and its tail, before and after
-pub record Advanced (run : Executed) (used : ℕ) (words : List (List ℕ)) (tail : ℕ) (used′ : ℕ) (words′ : List (List ℕ)) (tail′ : ℕ) : Type 0 where
+pub record Advanced (run : Executed) (used : ℕ) (words : List (List ℕ)) (tail : ℕ) (used′ : ℕ) (words′ : List (List ℕ))
+    (tail′ : ℕ) : Type 0 where
   pub uses : used′ ≡ used + run .used
   pub adds : Enqueued (run .segments) words tail words′ tail′

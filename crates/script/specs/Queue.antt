@@ -25,7 +25,11 @@ prevFrom present prev = cond (eqb present 1) (last.At (record { 0 = prev })) las
 
 unfoldable pub segmentFrom : List ℕ → PrintSegment
 segmentFrom words =
-    record { prev = prevFrom (getD words 0 0) (getD words 1 0); first = record { 0 = getD words 2 0 }; last = record { 0 = getD words 3 0 } }
+    record {
+      prev = prevFrom (getD words 0 0) (getD words 1 0);
+      first = record { 0 = getD words 2 0 };
+      last = record { 0 = getD words 3 0 };
+    }
 
 -- the queue whose words stand in a lent list from head up to tail
 pub record Queued (words : List (List ℕ)) (head tail : ℕ) (queue : List PrintSegment) : Type 0 where
@@ -39,6 +43,7 @@ firstOf [] = none
 firstOf (prints ∷ queue) = some prints
 
 -- more segments put behind the queue: the lent list and its tail before and after
-pub record Enqueued (more : List PrintSegment) (words : List (List ℕ)) (tail : ℕ) (words′ : List (List ℕ)) (tail′ : ℕ) : Type 0 where
+pub record Enqueued (more : List PrintSegment) (words : List (List ℕ)) (tail : ℕ) (words′ : List (List ℕ))
+    (tail′ : ℕ) : Type 0 where
   pub stand : words′ ≡ sets words tail (map segmentWords more)
   pub ends : tail′ ≡ tail + length more

@@ -35,7 +35,8 @@ pub fn script_formed(script: &[u64]) -> bool
     true
 }
 
-// Puts the segment that an entry of the script printed, if it printed one, behind the queue, and answers the tail after it.
+// Puts the segment that an entry of the script printed, if it printed one, behind the queue, and answers the tail after
+// it.
 fn put_printed(script: &[u64], at: usize, queue: &mut [[u64; 4]], tail: usize) -> usize
     requires { ⌜ (at + scriptEntryLength ≤ length (now script)) × (tail < length (now queue)) ⌝ }
     ensures { λ r. ⌜ Enqueued (scriptSegment (drop at (now (script .entry)))) (now (queue .entry)) tail (now (queue .exit)) r ⌝ }
@@ -60,7 +61,8 @@ pub struct Execution {
     pub tail: usize,
 }
 
-// Executes one elected, with the word that says whether its child identity is pending, behind the used entries of the script.
+// Executes one elected, with the word that says whether its child identity is pending, behind the used entries of the
+// script.
 fn execute_one(
     pending: u64,
     script: &[u64],
@@ -93,8 +95,8 @@ fn execute_one(
     }
 }
 
-// Executes the elected of a list from one entry up to another, in turn: each whose child identity is free uses the next entry of the
-// script, and the segment that it printed, if it printed one, goes behind the queue.
+// Executes the elected of a list from one entry up to another, in turn: each whose child identity is free uses the next
+// entry of the script, and the segment that it printed, if it printed one, goes behind the queue.
 pub fn execute(
     list: &[ElectedWords],
     from: usize,

@@ -39,17 +39,20 @@ module _ (kill : Bool) (s : PrintSegment) where
   pointsBy second.None b = firstPoint b
   pointsBy (second.At price) b = andThen (firstPoint b) (pointAfter price (firstPoint b .book))
 
-  pub segment-by : (k : SecondPoint) → k ≡ secondPoint (s .first) (s .last) → (b : Book) → pointsBy k b ≡ segment kill s b
+  pub segment-by : (k : SecondPoint) → k ≡ secondPoint (s .first) (s .last) → (b : Book)
+      → pointsBy k b ≡ segment kill s b
   unfolding secondPoint segment walkFrom
   segment-by k e b =
       rw e (cases (eqb (s .first .0) (s .last .0)) (λ f. rw f (sym (then-none _)))
       (λ f. rw f (ap (andThen (firstPoint b)) (sym (then-none _)))))
 
-  module _ {n : ℕ} {w v : List ℕ} (l k : List (List ℕ)) (at m mid : ℕ) (first : Does firstPoint n w v l k at m mid) where
+  module _ {n : ℕ} {w v : List ℕ} (l k : List (List ℕ)) (at m mid : ℕ)
+      (first : Does firstPoint n w v l k at m mid) where
     pub segment-one : second.None ≡ secondPoint (s .first) (s .last) → Does (segment kill s) n w v l k at m mid
     segment-one e = does-same (pointsBy second.None) (segment kill s) (segment-by second.None e) l k at m mid first
 
-    pub segment-two : (price : Price) → second.At price ≡ secondPoint (s .first) (s .last) → {x : List ℕ} (j : List (List ℕ)) (q end : ℕ)
+    pub segment-two : (price : Price) → second.At price ≡ secondPoint (s .first) (s .last)
+        → {x : List ℕ} (j : List (List ℕ)) (q end : ℕ)
         → Does (pointAfter price) n v x k j mid q end → Does (segment kill s) n w x l j at (m + q) end
     segment-two price e j q end later =
         does-same (pointsBy (second.At price)) (segment kill s) (segment-by (second.At price) e) l j at (m + q) end
@@ -59,12 +62,14 @@ module _ (kill : Bool) (s : PrintSegment) where
 -- The moves
 
 -- there is room for those of the first point
-pub first-moves : (price : Price) (b : Book) (room : ℕ) → 2 * pendingCount (b .slots) ≤ room → 0 + length (movedBy price b) ≤ room
+pub first-moves : (price : Price) (b : Book) (room : ℕ) → 2 * pendingCount (b .slots) ≤ room
+    → 0 + length (movedBy price b) ≤ room
 unfolding point
 first-moves price b room h = omega (arith, h, point-moves true true price b)
 
 -- and of the second
-pub second-moves : (kill sells : Bool) (price next : Price) {n : ℕ} {w : List ℕ} (l k : List (List ℕ)) (m : ℕ) → ListsMoves price n w l k 0 m
+pub second-moves : (kill sells : Bool) (price next : Price) {n : ℕ} {w : List ℕ} (l k : List (List ℕ)) (m : ℕ)
+    → ListsMoves price n w l k 0 m
     → {b : Book} {r : List ℕ} (room : ℕ) → Stored n w b r → 2 * pendingCount (b .slots) ≤ room
     → m + length (movedBy next (point kill sells price b .book)) ≤ room
 unfolding point
@@ -77,13 +82,15 @@ second-moves kill sells price next l k m lists {b = b} {r = r} room st h =
 abbrev pub Notes : (Book → Evaluated) → ℕ → List ℕ → List (List ℕ) → List (List ℕ) → Type 0
 Notes o n w l k = (b : Book) (r : List ℕ) → Stored n w b r → k ≡ sets l 0 (map movedWords (o b .moved))
 
-module _ (kill : Bool) (s : PrintSegment) {n : ℕ} {w : List ℕ} (l k : List (List ℕ)) (m : ℕ) (lists : ListsMoves (s .first) n w l k 0 m) where
+module _ (kill : Bool) (s : PrintSegment) {n : ℕ} {w : List ℕ} (l k : List (List ℕ)) (m : ℕ)
+    (lists : ListsMoves (s .first) n w l k 0 m) where
   pub notes-one : second.None ≡ secondPoint (s .first) (s .last) → Notes (segment kill s) n w l k
   unfolding point
   notes-one e b r st = rw (← segment-by kill s second.None e b) (lists b r st .1)
 
   pub notes-two : {v : List ℕ} (i j : List (List ℕ)) (q mid : ℕ) → Does (firstPoint kill s) n w v i j 0 q mid
-      → (price : Price) → second.At price ≡ secondPoint (s .first) (s .last) → (x : List (List ℕ)) (end : ℕ) → ListsMoves price n v k x m end
+      → (price : Price) → second.At price ≡ secondPoint (s .first) (s .last) → (x : List (List ℕ)) (end : ℕ)
+      → ListsMoves price n v k x m end
       → Notes (segment kill s) n w l x
   unfolding andThen point
   notes-two i j q mid first price e x end more b r st =
@@ -94,8 +101,10 @@ module _ (kill : Bool) (s : PrintSegment) {n : ℕ} {w : List ℕ} (l k : List (
 
 -- both lists
 pub listed : (kill : Bool) (s : PrintSegment) {n : ℕ} {w v : List ℕ} (l k i j : List (List ℕ)) (m end : ℕ)
-    → Does (segment kill s) n w v l k 0 m end → Notes (segment kill s) n w i j → (b : Book) (r : List ℕ) → Stored n w b r
-    → (m ≡ length (segment kill s b .moved)) × (end ≡ length (segment kill s b .fills)) × (k ≡ sets l 0 (map fillWords (segment kill s b .fills)))
+    → Does (segment kill s) n w v l k 0 m end → Notes (segment kill s) n w i j → (b : Book) (r : List ℕ)
+    → Stored n w b r
+    → (m ≡ length (segment kill s b .moved)) × (end ≡ length (segment kill s b .fills))
+    × (k ≡ sets l 0 (map fillWords (segment kill s b .fills)))
     × (j ≡ sets i 0 (map movedWords (segment kill s b .moved))) × Stored n v (segment kill s b .book) r
 listed kill s l k i j m end does notes b r st =
     let (e, f, g, done) = does b r st in

@@ -24,7 +24,8 @@ ghost use Rattle.segments.specs.Segments.{secondPoint};
 // ---------------------------------------------------------------------
 // A point
 
-// Writes the moves of the stops of both sides at a price into the list, from a place on, the sells first. Answers where the list goes on.
+// Writes the moves of the stops of both sides at a price into the list, from a place on, the sells first. Answers where
+// the list goes on.
 pub fn list_moves(s: &[u64], n: u64, price: Price, moved: &mut [MovedWords], at: usize) -> usize
     requires { ⌜ ((b : Book) × (r : List ℕ) × Stored n (now s) b r × (at + length (movedBy price b) ≤ length (now moved))) ⌝ }
     ensures { λ m. ⌜ ((b : Book) (r : List ℕ) → Stored n (now (s .entry)) b r

@@ -24,7 +24,8 @@ fn steps_to(w: &[u32; 80], from: usize, to: usize, s: State) -> State
     r
 }
 
-// The eighty steps, in four parts: the steps of each have the same function and constant, so that its loop needs no branch.
+// The eighty steps, in four parts: the steps of each have the same function and constant, so that its loop needs no
+// branch.
 fn steps(w: &[u32; 80], s: State) -> State
     ensures { λ r. ⌜ r ≡ steps (now (w .entry)) 80 s ⌝ }
 {
@@ -56,7 +57,8 @@ fn initial() -> State
     }
 }
 
-// The hash value of the octets of head and then those of tail. The limit on head keeps the sum of the lengths in a usize.
+// The hash value of the octets of head and then those of tail. The limit on head keeps the sum of the lengths in a
+// usize.
 pub fn hash(head: &[u8], tail: &[u8]) -> State
     requires { ⌜ length (now head) ≤ 65536 ⌝ }
     ensures { λ r. ⌜ r ≡ hash (now (head .entry) ++ now (tail .entry)) ⌝ }

@@ -28,7 +28,8 @@ unfoldable pub toldNew : NewProtection → Answer StopProtection
 toldNew (new.Ok p) = accepted p
 toldNew (new.Err e) = refused (refusalNumber e)
 
--- document 01, The limit and the child: a sell's is stop − collar, or 0 if that is negative; a buy's stop + collar, at most 2^64 − 1
+-- document 01, The limit and the child: a sell's is stop − collar, or 0 if that is negative; a buy's stop + collar, at
+-- most 2^64 − 1
 unfoldable pub limitFor : ℕ → Side → ℕ → ℕ
 limitFor collar Sell stop = stop - collar
 limitFor collar Buy stop = min (stop + collar) (2 ^ 64 - 1)

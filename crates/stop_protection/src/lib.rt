@@ -1,5 +1,6 @@
-// Protection collar for elected stops, from orderbook-rs's stop_protection.rs: an elected stop executes as a limit order at its
-// stop price moved by the collar against it. A collar that reaches past the lowest or highest price does not protect that side.
+// Protection collar for elected stops, from orderbook-rs's stop_protection.rs: an elected stop executes as a limit
+// order at its stop price moved by the collar against it. A collar that reaches past the lowest or highest price does
+// not protect that side.
 use error::Refusal;
 use pricelevel::Price;
 use pricelevel::Side;

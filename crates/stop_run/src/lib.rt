@@ -35,8 +35,8 @@ fn next_segment(path: PrintPath, trade: LastPrice, pending: u64) -> NextSegment
     taken.segment
 }
 
-// A run over path and store: takes the path's segment, up to the last trade, passes, and resets the path. Where nothing is pending or the path is
-// closed it answers zeros and leaves all alone. Refused as a pass is.
+// A run over path and store: takes the path's segment, up to the last trade, passes, and resets the path. Where nothing
+// is pending or the path is closed it answers zeros and leaves all alone. Refused as a pass is.
 pub fn run_stop_triggers(
     s: &mut [u64],
     path: PrintPath,

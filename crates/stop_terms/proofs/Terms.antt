@@ -51,11 +51,16 @@ past-antisym Buy a b h k = omega (arith, tests)
 -- a stop is elected by the prices that it is not behind
 pub elects-past : (s : Side) (price stop : ℕ) → elects s price stop ≡ not (behind s stop price)
 unfolding behind elects
-elects-past Sell price stop = cases (ltb stop price) (λ e. rw (e, lt-leb price stop (ltb-true stop price e))) (λ e. rw (e, le-leb price stop (ltb-false stop price e)))
-elects-past Buy price stop = cases (ltb price stop) (λ e. rw (e, lt-leb stop price (ltb-true price stop e))) (λ e. rw (e, le-leb stop price (ltb-false price stop e)))
+elects-past Sell price stop =
+    cases (ltb stop price) (λ e. rw (e, lt-leb price stop (ltb-true stop price e)))
+    (λ e. rw (e, le-leb price stop (ltb-false stop price e)))
+elects-past Buy price stop =
+    cases (ltb price stop) (λ e. rw (e, lt-leb stop price (ltb-true price stop e)))
+    (λ e. rw (e, le-leb stop price (ltb-false price stop e)))
 
 ------------------------------------------------------------------------
--- The candidate: it lies behind the price, a later price in the same direction undoes an earlier one, and a stop only tightens.
+-- The candidate: it lies behind the price, a later price in the same direction undoes an earlier one, and a stop only
+-- tightens.
 
 pub tightened-past : (s : Side) (stop c : ℕ) → behind s stop c ≡ true → tightened s stop (some c) ≡ c
 unfolding behind tightened
@@ -74,17 +79,23 @@ tightened-only Sell stop (some c) = omega (arith, tests)
 tightened-only Buy stop none = omega (arith, tests)
 tightened-only Buy stop (some c) = omega (arith, tests)
 
-pub candidate-behind : (s : Side) (trail price c : ℕ) → 1 ≤ trail → candidate s trail price ≡ some c → behind s c price ≡ true
+pub candidate-behind : (s : Side) (trail price c : ℕ) → 1 ≤ trail → candidate s trail price ≡ some c
+    → behind s c price ≡ true
 unfolding behind candidate
 candidate-behind Sell trail price c h e = cases (leb trail price)
-    (λ (f : leb trail price ≡ true). let g : some (price - trail) ≡ some c = rw f at e in let q : price - trail ≡ c = cc in omega (arith, tests, leb-true))
-    (λ (f : leb trail price ≡ false). let g : none ≡ some c = rw f at e in let z : _≡_ {A = ℕ} 0 1 = cc in absurd (omega arith))
+    (λ (f : leb trail price ≡ true). let g : some (price - trail) ≡ some c = rw f at e in
+    let q : price - trail ≡ c = cc in omega (arith, tests, leb-true))
+    (λ (f : leb trail price ≡ false). let g : none ≡ some c = rw f at e in let z : _≡_ {A = ℕ} 0 1 = cc in
+    absurd (omega arith))
 candidate-behind Buy trail price c h e = cases (ltb (price + trail) (2 ^ 64))
-    (λ (f : ltb (price + trail) (2 ^ 64) ≡ true). let g : some (price + trail) ≡ some c = rw f at e in let q : price + trail ≡ c = cc in omega (arith, tests))
-    (λ (f : ltb (price + trail) (2 ^ 64) ≡ false). let g : none ≡ some c = rw f at e in let z : _≡_ {A = ℕ} 0 1 = cc in absurd (omega arith))
+    (λ (f : ltb (price + trail) (2 ^ 64) ≡ true). let g : some (price + trail) ≡ some c = rw f at e in
+    let q : price + trail ≡ c = cc in omega (arith, tests))
+    (λ (f : ltb (price + trail) (2 ^ 64) ≡ false). let g : none ≡ some c = rw f at e in let z : _≡_ {A = ℕ} 0 1 = cc in
+    absurd (omega arith))
 
 pub candidate-again : (s : Side) (trail p q stop : ℕ) → behind s q p ≡ false
-    → tightened s (tightened s stop (candidate s trail p)) (candidate s trail q) ≡ tightened s stop (candidate s trail q)
+    → tightened s (tightened s stop (candidate s trail p))
+    (candidate s trail q) ≡ tightened s stop (candidate s trail q)
 unfolding behind candidate tightened
 candidate-again Sell trail p q stop h = cases (leb trail p)
     (λ e. rw (e, le-leb trail q (omega (arith, tests, leb-true))) (omega (arith, tests)))
@@ -107,11 +118,13 @@ tightened-behind s trail price stop h k = go (candidate s trail price) refl
 ------------------------------------------------------------------------
 -- The terms after a trade.
 
-pub trailedAt-still : (t : StopTerms) (price : Price) → behind (t .side) (t .watermark .0) (price .0) ≡ false → trailedAt t price ≡ t
+pub trailedAt-still : (t : StopTerms) (price : Price) → behind (t .side) (t .watermark .0) (price .0) ≡ false
+    → trailedAt t price ≡ t
 unfolding trailedAt
 trailedAt-still t price h = rw h
 
-pub trailedAt-moved : (t : StopTerms) (price stop : Price) (c : Option ℕ) → behind (t .side) (t .watermark .0) (price .0) ≡ true
+pub trailedAt-moved : (t : StopTerms) (price stop : Price) (c : Option ℕ)
+    → behind (t .side) (t .watermark .0) (price .0) ≡ true
     → c ≡ candidate (t .side) (t .trail) (price .0) → stop .0 ≡ tightened (t .side) (t .stop .0) c
     → record { side = t .side; stop = stop; watermark = price; trail = t .trail } ≡ trailedAt t price
 unfolding trailedAt ratcheted
@@ -128,7 +141,9 @@ beyond-number Sell = refl
 beyond-number Buy = refl
 
 pub inconsistency-number : (t : StopTerms)
-    → inconsistencyNumber (inconsistencyOf t) ≡ cond (eqb (t .trail) 0) (some 5) (cond (behind (t .side) (t .watermark .0) (t .stop .0)) (some 6) none)
+    → inconsistencyNumber (inconsistencyOf t) ≡ cond (eqb (t .trail) 0) (some 5)
+    (cond (behind (t .side) (t .watermark .0) (t .stop .0)) (some 6) none)
 unfolding inconsistencyOf inconsistencyNumber
 inconsistency-number t = cases (eqb (t .trail) 0) (λ e. rw e)
-    (λ e. cases (behind (t .side) (t .watermark .0) (t .stop .0)) (λ f. rw (e, f) (beyond-number (t .side))) (λ f. rw (e, f)))
+    (λ e. cases (behind (t .side) (t .watermark .0) (t .stop .0)) (λ f. rw (e, f) (beyond-number (t .side)))
+    (λ f. rw (e, f)))

@@ -17,8 +17,8 @@ unfoldable pub behind : Side → ℕ → ℕ → Bool
 behind Sell a b = ltb a b
 behind Buy a b = ltb b a
 
--- where a price would put a stop that trails it: a sell's at price − trail, a buy's at price + trail; at no place, if trail > price or the
--- sum is 2^64 or more
+-- where a price would put a stop that trails it: a sell's at price − trail, a buy's at price + trail; at no place, if
+-- trail > price or the sum is 2^64 or more
 unfoldable pub candidate : Side → ℕ → ℕ → Option ℕ
 candidate Sell trail price = cond (leb trail price) (some (price - trail)) none
 candidate Buy trail price = cond (ltb (price + trail) (2 ^ 64)) (some (price + trail)) none
@@ -57,7 +57,8 @@ beyond Buy = terms.BuyBelowWatermark
 
 unfoldable pub inconsistencyOf : StopTerms → Inconsistency
 inconsistencyOf t =
-    cond (eqb (t .trail) 0) terms.ZeroTrail (cond (behind (t .side) (t .watermark .0) (t .stop .0)) (beyond (t .side)) terms.None)
+    cond (eqb (t .trail) 0) terms.ZeroTrail
+    (cond (behind (t .side) (t .watermark .0) (t .stop .0)) (beyond (t .side)) terms.None)
 
 -- the number of the question that it answers no
 unfoldable pub inconsistencyNumber : Inconsistency → Option ℕ

@@ -1,5 +1,6 @@
-// The trailing parameters of a stop, from orderbook-rs's stop_orders.rs. The watermark follows the trades in the stop's favour,
-// up for a sell and down for a buy; the stop tightens to the trail behind it and is elected by a trade at or through it.
+// The trailing parameters of a stop, from orderbook-rs's stop_orders.rs. The watermark follows the trades in the stop's
+// favour, up for a sell and down for a buy; the stop tightens to the trail behind it and is elected by a trade at or
+// through it.
 use pricelevel::Price;
 use pricelevel::Side;
 ghost use mathlib.Core.Path.{_≡_};
@@ -58,8 +59,8 @@ pub fn candidate_at(side: Side, trail: u64, price: Price) -> Candidate
 }
 
 impl StopTerms {
-    // The terms after a trade at this price. Unchanged where the trade does not improve the watermark; a stop that the trail
-    // cannot represent keeps its price, while the watermark still moves.
+    // The terms after a trade at this price. Unchanged where the trade does not improve the watermark; a stop that the
+    // trail cannot represent keeps its price, while the watermark still moves.
     pub fn trailed(self, price: Price) -> Self
         ensures { λ r. ⌜ r ≡ trailedAt self price ⌝ }
     {

@@ -10,7 +10,8 @@ use Rattle.uuid.specs.declared.Uuid.{Uuid}
 -- the 25 bytes `orderbook-rs/stop-trigger`
 abbrev pub label : List ℕ
 label =
-    111 ∷ 114 ∷ 100 ∷ 101 ∷ 114 ∷ 98 ∷ 111 ∷ 111 ∷ 107 ∷ 45 ∷ 114 ∷ 115 ∷ 47 ∷ 115 ∷ 116 ∷ 111 ∷ 112 ∷ 45 ∷ 116 ∷ 114 ∷ 105 ∷ 103 ∷ 103 ∷ 101 ∷ 114
+    111 ∷ 114 ∷ 100 ∷ 101 ∷ 114 ∷ 98 ∷ 111 ∷ 111 ∷ 107 ∷ 45 ∷ 114 ∷ 115 ∷ 47 ∷ 115 ∷ 116 ∷ 111 ∷ 112 ∷ 45 ∷ 116 ∷ 114
+    ∷ 105 ∷ 103 ∷ 103 ∷ 101 ∷ 114
     ∷ []
 
 -- the name: the label, the kind byte, the sixteen identity bytes

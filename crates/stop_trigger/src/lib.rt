@@ -1,5 +1,6 @@
-// The identity of the child order that an elected stop executes as, from orderbook-rs's stop_orders.rs: a UUID of version 5 of
-// the book's namespace and the stop's identity, so that a replay with the same namespace has the same identities.
+// The identity of the child order that an elected stop executes as, from orderbook-rs's stop_orders.rs: a UUID of
+// version 5 of the book's namespace and the stop's identity, so that a replay with the same namespace has the same
+// identities.
 use pricelevel::Id;
 use pricelevel::IdKind;
 use uuid::Uuid;

@@ -17,11 +17,17 @@ use Rattle.pending_stops.specs.Stored.{Stored}
 ------------------------------------------------------------------------
 -- Cancel
 
-pub cancel-unformed : (id : Id) (w : List ℕ) → wellFormed w ≡ false → cancel id w ≡ record { answer = refused 1; words = w }
+pub cancel-unformed : (id : Id) (w : List ℕ) → wellFormed w ≡ false → cancel id w ≡ record {
+  answer = refused 1;
+  words = w;
+}
 unfolding cancel firstNo decide
 cancel-unformed id w e = rw e
 
-pub cancel-missing : (id : Id) (w : List ℕ) → wellFormed w ≡ true → lookup id (bookOf w) ≡ none → cancel id w ≡ record { answer = refused 12; words = w }
+pub cancel-missing : (id : Id) (w : List ℕ) → wellFormed w ≡ true → lookup id (bookOf w) ≡ none → cancel id w ≡ record {
+  answer = refused 12;
+  words = w;
+}
 unfolding cancel firstNo decide cancelFound
 cancel-missing id w e q = rw (e, q)
 
@@ -36,11 +42,15 @@ pub cancel-refused-as : (id : Id) (w : List ℕ) (k : ℕ) → cancel id w ≡ r
 cancel-refused-as id w k q =
     (sym (ap (λ (o : StoreOutcome StopEntry). o .answer) q), sym (ap (λ (o : StoreOutcome StopEntry). o .words) q))
 
-pub cancel-done : (id : Id) (w : List ℕ) (e : wellFormed w ≡ true) (i : ℕ) (f : Found id (bookOf w) i) (t : StopEntry) → t ≡ entryAt w i
-    → (u : List ℕ) → Stored (getD w 0 0) u (vacated i (bookOf w)) (beyond w) → (accepted t ≡ cancel id w .answer) × (u ≡ cancel id w .words)
+pub cancel-done : (id : Id) (w : List ℕ) (e : wellFormed w ≡ true) (i : ℕ) (f : Found id (bookOf w) i) (t : StopEntry)
+    → t ≡ entryAt w i
+    → (u : List ℕ) → Stored (getD w 0 0) u (vacated i (bookOf w)) (beyond w)
+    → (accepted t ≡ cancel id w .answer) × (u ≡ cancel id w .words)
 cancel-done id w e i f t q u st = (
-  ap accepted (q ∙ found-entry w e id i f) ∙ sym (ap (λ (o : StoreOutcome StopEntry). o .answer) (cancel-found id w e i f)),
-  stored-words w u (vacated i (bookOf w)) st ∙ sym (ap (λ (o : StoreOutcome StopEntry). o .words) (cancel-found id w e i f)),
+  ap accepted (q ∙ found-entry w e id i f)
+      ∙ sym (ap (λ (o : StoreOutcome StopEntry). o .answer) (cancel-found id w e i f)),
+  stored-words w u (vacated i (bookOf w)) st
+      ∙ sym (ap (λ (o : StoreOutcome StopEntry). o .words) (cancel-found id w e i f)),
 )
 
 ------------------------------------------------------------------------
@@ -50,11 +60,13 @@ pub find-unformed : (id : Id) (w : List ℕ) → wellFormed w ≡ false → refu
 unfolding find firstNo decide
 find-unformed id w e = rw e
 
-pub find-missing : (id : Id) (w : List ℕ) → wellFormed w ≡ true → lookup id (bookOf w) ≡ none → accepted none ≡ find id w
+pub find-missing : (id : Id) (w : List ℕ) → wellFormed w ≡ true → lookup id (bookOf w) ≡ none
+    → accepted none ≡ find id w
 unfolding find firstNo decide entryOf
 find-missing id w e q = rw (e, q)
 
-pub find-found : (id : Id) (w : List ℕ) (e : wellFormed w ≡ true) (i : ℕ) (f : Found id (bookOf w) i) (t : StopEntry) → t ≡ entryAt w i
+pub find-found : (id : Id) (w : List ℕ) (e : wellFormed w ≡ true) (i : ℕ) (f : Found id (bookOf w) i) (t : StopEntry)
+    → t ≡ entryAt w i
     → accepted (some t) ≡ find id w
 unfolding find firstNo decide entryOf
 find-found id w e i f t q = rw (e, f .looked, q ∙ found-entry w e id i f)

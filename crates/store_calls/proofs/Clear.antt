@@ -25,8 +25,10 @@ pub clear-unformed : (w : List ℕ) (path : PrintPath) → wellFormed w ≡ fals
 unfolding clear firstNo decide
 clear-unformed w path e = (rw e, (rw e, rw e))
 
-pub clear-done : (w u : List ℕ) (path after : PrintPath) → wellFormed w ≡ true → u ≡ stored (getD w 0 0) (emptyBook (getD w 0 0) (getD w 3 0)) w
-    → after ≡ closed path → (accepted tt ≡ clear w path .answer) × ((after ≡ clear w path .path) × (u ≡ clear w path .words))
+pub clear-done : (w u : List ℕ) (path after : PrintPath) → wellFormed w ≡ true
+    → u ≡ stored (getD w 0 0) (emptyBook (getD w 0 0) (getD w 3 0)) w
+    → after ≡ closed path
+    → (accepted tt ≡ clear w path .answer) × ((after ≡ clear w path .path) × (u ≡ clear w path .words))
 unfolding clear firstNo decide storedBook
 clear-done w u path after e h q = (rw e, (rw e q, rw e h))
 
@@ -34,6 +36,7 @@ pub quantity-unformed : (w : List ℕ) → wellFormed w ≡ false → refused 1 
 unfolding pendingQuantity firstNo decide
 quantity-unformed w e = rw e
 
-pub quantity-done : (w : List ℕ) (t : Totals) → wellFormed w ≡ true → t ≡ totalsOf (slotsAt w 1 (getD w 0 0)) → accepted t ≡ pendingQuantity w
+pub quantity-done : (w : List ℕ) (t : Totals) → wellFormed w ≡ true → t ≡ totalsOf (slotsAt w 1 (getD w 0 0))
+    → accepted t ≡ pendingQuantity w
 unfolding pendingQuantity firstNo decide totalsOf bookOf
 quantity-done w t e h = rw (e, h)

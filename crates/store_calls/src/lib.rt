@@ -1,5 +1,5 @@
-// Cancel, search, clear and totals on a store of pending stops, from orderbook-rs's stop_orders.rs: the questions of each in their order,
-// then one operation; a refused call alters nothing.
+// Cancel, search, clear and totals on a store of pending stops, from orderbook-rs's stop_orders.rs: the questions of
+// each in their order, then one operation; a refused call alters nothing.
 use book::Cleared;
 use book::FindAnswer;
 use book::LayoutAnswer;
@@ -64,7 +64,8 @@ pub fn pending_stop_order(s: &[u64], id: Id) -> FindAnswer
     FindAnswer::Found(entry_at(s, n, at))
 }
 
-// Lays the store out anew with the same number of records and tick, and resets the path. Refused: it is not well formed (1).
+// Lays the store out anew with the same number of records and tick, and resets the path. Refused: it is not well formed
+// (1).
 pub fn clear(s: &mut [u64], path: PrintPath) -> Cleared
     ensures { λ r. ⌜ toldLayout (r .answer) ≡ clear (now (s .entry)) path .answer ⌝ }
     ensures { λ r. ⌜ r .path ≡ clear (now (s .entry)) path .path ⌝ }

@@ -1,4 +1,5 @@
-// The five chains of a store: a record taken out of one or put into it, the free chain as a stack, a stop linked in both of its side.
+// The five chains of a store: a record taken out of one or put into it, the free chain as a stack, a stop linked in
+// both of its side.
 use book::Chain;
 use book::NEXT_BY_STOP;
 use links::link_in;

@@ -36,7 +36,8 @@ fn next_free(n: u64, i: u64) -> u64
     0
 }
 
-// Lays out an empty store of n records: all words of the header and the records are written, the free chain rises from 1 to n.
+// Lays out an empty store of n records: all words of the header and the records are written, the free chain rises from
+// 1 to n.
 pub fn lay_out(s: &mut [u64], n: u64, tick: u64)
     requires { ⌜ (1 ≤ n) × Room n (now s) ⌝ }
     ensures { λ _. ⌜ now (s .exit) ≡ stored n (emptyBook n tick) (now (s .entry)) ⌝ }

@@ -33,19 +33,23 @@ nextIn-linked n w k p [] e d links = e
 nextIn-linked n w k p (i ∷ l) e d links =
     let next : recordWord w i k ≡ headOr0 l = links .0 .2 ∙ nextIn-here i l in
     let rest =
-    all-map-both {P = λ j. i ≢ j} {Q = λ j. (1 ≤ j) × (j ≤ n) × (recordWord w j k ≡ nextIn (i ∷ l) j)} {R = λ j. (1 ≤ j) × (j ≤ n) × (recordWord w j k ≡ nextIn l j)}
+    all-map-both {P = λ j. i ≢ j} {Q = λ j. (1 ≤ j) × (j ≤ n)
+    × (recordWord w j k ≡ nextIn (i ∷ l) j)} {R = λ j. (1 ≤ j) × (j ≤ n) × (recordWord w j k ≡ nextIn l j)}
     (λ j a h. (h .0, h .1, h .2 ∙ nextIn-there i j l a)) l (d .0) (links .1) in
     (e, links .0 .0, links .0 .1, nextIn-linked n w k (cell i k) l next (d .1) rest)
 
 ------------------------------------------------------------------------
 -- The words of a book
 
-pub layout-linked : (b : Book) (r : List ℕ) → Valid b → (a : StoreChain) → Linked (length (b .slots)) (layout b ++ r) (nextOf a) (startOf a) (chainsOf b a)
+pub layout-linked : (b : Book) (r : List ℕ) → Valid b → (a : StoreChain)
+    → Linked (length (b .slots)) (layout b ++ r) (nextOf a) (startOf a) (chainsOf b a)
 layout-linked b r v a =
-    nextIn-linked (length (b .slots)) (layout b ++ r) (nextOf a) (startOf a) (chainsOf b a) (layout-head b r a) (chainsOf-distinct b v a)
+    nextIn-linked (length (b .slots)) (layout b ++ r) (nextOf a) (startOf a) (chainsOf b a) (layout-head b r a)
+    (chainsOf-distinct b v a)
     (all-map linked (chainsOf b a) (chainsOf-belong b v a))
   where
-    linked : (i : ℕ) → Belongs a (b .slots) i → (1 ≤ i) × (i ≤ length (b .slots)) × (recordWord (layout b ++ r) i (nextOf a) ≡ nextIn (chainsOf b a) i)
+    linked : (i : ℕ) → Belongs a (b .slots) i
+        → (1 ≤ i) × (i ≤ length (b .slots)) × (recordWord (layout b ++ r) i (nextOf a) ≡ nextIn (chainsOf b a) i)
     linked i h = let q = belongs-range a (b .slots) i h in (q .0, q .1, layout-next b r a i h)
 
 ------------------------------------------------------------------------
@@ -59,13 +63,16 @@ module _ (w : List ℕ) (e : wellFormed w ≡ true) where
   }
 
   layout-linked-words : (k p : ℕ) (l : List ℕ)
-      → Linked (length (bookOf w .slots)) (layout (bookOf w) ++ drop (storeLength (getD w 0 0)) w) k p l → Linked (getD w 0 0) w k p l
+      → Linked (length (bookOf w .slots)) (layout (bookOf w) ++ drop (storeLength (getD w 0 0)) w) k p l
+      → Linked (getD w 0 0) w k p l
   layout-linked-words k p l h =
-      subst (λ (v : List ℕ). Linked (getD w 0 0) v k p l) (sym (wellFormed-layout w e)) (rw (bookOf-slots-length w) at h)
+      subst (λ (v : List ℕ). Linked (getD w 0 0) v k p l) (sym (wellFormed-layout w e))
+      (rw (bookOf-slots-length w) at h)
 
   pub wellFormed-linked : (a : StoreChain) → Linked (getD w 0 0) w (nextOf a) (startOf a) (chainsOf (bookOf w) a)
   wellFormed-linked a =
-      layout-linked-words (nextOf a) (startOf a) (chainsOf (bookOf w) a) (layout-linked (bookOf w) _ (wellFormed-valid w e) a)
+      layout-linked-words (nextOf a) (startOf a) (chainsOf (bookOf w) a)
+      (layout-linked (bookOf w) _ (wellFormed-valid w e) a)
 
   pub wellFormed-chain-length : (c : Chain) → length (chainIndices c (bookOf w)) ≤ getD w 0 0
   wellFormed-chain-length c = rw (bookOf-slots-length w) at (chainIndices-length c (bookOf w))

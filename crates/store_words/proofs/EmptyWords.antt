@@ -113,13 +113,15 @@ module _ (l w : List ℕ) where
       let size = length-take-le p l h in
       let e : q ≡ length (take p l) + (q - p) = omega (arith, size) in
       let f : p + (q - p) ≡ q = omega arith in
-      ap (λ (m : ℕ). drop m (over l w p)) e ∙ drop-append-add (take p l) (drop p w) (q - p) ∙ drop-drop (q - p) p w ∙ ap (λ (m : ℕ). drop m w) f
+      ap (λ (m : ℕ). drop m (over l w p)) e ∙ drop-append-add (take p l) (drop p w) (q - p) ∙ drop-drop (q - p) p w
+      ∙ ap (λ (m : ℕ). drop m w) f
 
   over-length : (p : ℕ) → p ≤ length l → p ≤ length w → length (over l w p) ≡ length w
   over-length p h k = length-front w (take p l) p (length-take-le p l h ∙ sym (length-take-le p w k))
 
   -- the next words are stored
-  over-sets : (p : ℕ) (vs : List ℕ) → p + length vs ≤ length l → p + length vs ≤ length w → take (length vs) (drop p l) ≡ vs
+  over-sets : (p : ℕ) (vs : List ℕ) → p + length vs ≤ length l → p + length vs ≤ length w
+      → take (length vs) (drop p l) ≡ vs
       → sets (over l w p) p vs ≡ over l w (p + length vs)
   over-sets p vs h k e =
       let h0 : p ≤ length l = omega arith in
@@ -127,7 +129,12 @@ module _ (l w : List ℕ) where
       let room : p + length vs ≤ length (over l w p) = omega (arith, over-length p h0 k0) in
       let size = length-take-le p l h0 in
       sets-eq vs (over l w p) p room
-      ∙ rw (take-at (take p l) (drop p w) p size, over-drop p (p + length vs) h0 (omega arith), take-add p (length vs) l, e)
+      ∙ rw (
+        take-at (take p l) (drop p w) p size,
+        over-drop p (p + length vs) h0 (omega arith),
+        take-add p (length vs) l,
+        e,
+      )
 
 ------------------------------------------------------------------------
 -- An empty store
@@ -149,14 +156,17 @@ module _ (n tick : ℕ) where
   laid-header : (w : List ℕ) → Room n w → sets w 0 (header (emptyBook n tick)) ≡ over (emptyWords n tick) w headerLength
   unfolding header
   laid-header w r =
-      over-sets (emptyWords n tick) w 0 (header (emptyBook n tick)) (omega (arith, emptyWords-length)) (omega (arith, r .room))
+      over-sets (emptyWords n tick) w 0 (header (emptyBook n tick)) (omega (arith, emptyWords-length))
+      (omega (arith, r .room))
       (layout-header-part (emptyBook n tick))
 
-  emptyWords-record : (i : ℕ) → 1 ≤ i → i ≤ n → take recordLength (drop (cell i 0) (emptyWords n tick)) ≡ freeWords (nextIn (rising 1 n) i)
+  emptyWords-record : (i : ℕ) → 1 ≤ i → i ≤ n
+      → take recordLength (drop (cell i 0) (emptyWords n tick)) ≡ freeWords (nextIn (rising 1 n) i)
   unfolding emptyBook recordWords afterByStop afterByWatermark
   emptyWords-record i low high =
       let inside : i - 1 < n = omega arith in
-      rw (getD-replicate n (i - 1) vacant vacant inside) at (layout-record-part (emptyBook n tick) i low (rw (emptyBook-length n tick) high))
+      rw (getD-replicate n (i - 1) vacant vacant inside) at
+      (layout-record-part (emptyBook n tick) i low (rw (emptyBook-length n tick) high))
 
   -- over the words that the header's stores left
   pub laid-none : (w s : List ℕ) → Room n w → s ≡ sets w 0 (header (emptyBook n tick)) → Laid n tick s 1 s
@@ -165,18 +175,24 @@ module _ (n tick : ℕ) where
       record {
         least = omega arith;
         most = omega arith;
-        inside = record { few = r .few; room = omega (arith, r .room, ap length e, length-sets w 0 (header (emptyBook n tick))) };
+        inside = record {
+          few = r .few;
+          room = omega (arith, r .room, ap length e, length-sets w 0 (header (emptyBook n tick)));
+        };
         words =
             started
             ∙ ap (λ (v : List ℕ). take headerLength (emptyWords n tick) ++ v)
-            (sym (ap (λ (v : List ℕ). drop headerLength v) started ∙ over-drop (emptyWords n tick) w headerLength headerLength (omega (arith, emptyWords-length)) (omega arith)));
+            (sym (ap (λ (v : List ℕ). drop headerLength v) started
+            ∙ over-drop (emptyWords n tick) w headerLength headerLength (omega (arith, emptyWords-length))
+            (omega arith)));
       }
 
   module _ (w s : List ℕ) (i : ℕ) (h : Laid n tick w i s) where
     pub laid-length : length s ≡ length w
     laid-length =
         ap length (h .words)
-        ∙ over-length (emptyWords n tick) w (storeLength (i - 1)) (omega (arith, emptyWords-length, h .most)) (omega (arith, h .most, h .inside .room))
+        ∙ over-length (emptyWords n tick) w (storeLength (i - 1)) (omega (arith, emptyWords-length, h .most))
+        (omega (arith, h .most, h .inside .room))
 
     pub laid-record : i ≤ n → Record n s i
     laid-record l = record {
@@ -185,7 +201,8 @@ module _ (n tick : ℕ) where
       inside = record { few = h .inside .few; room = omega (arith, laid-length, h .inside .room) };
     }
 
-    pub laid-more : (next : ℕ) (after : List ℕ) → i ≤ n → next ≡ nextIn (rising 1 n) i → after ≡ sets s (cell i 0) (freeWords next)
+    pub laid-more : (next : ℕ) (after : List ℕ) → i ≤ n → next ≡ nextIn (rising 1 n) i
+        → after ≡ sets s (cell i 0) (freeWords next)
         → Laid n tick w (i + 1) after
     unfolding dataWords withLinks cell
     laid-more next after l e q =
@@ -199,11 +216,13 @@ module _ (n tick : ℕ) where
           words =
               q
               ∙ rw (p, h .words)
-              (over-sets (emptyWords n tick) w (storeLength (i - 1)) (freeWords next) (omega (arith, emptyWords-length, following)) (omega (arith, h .inside .room, following)) part)
+              (over-sets (emptyWords n tick) w (storeLength (i - 1)) (freeWords next)
+              (omega (arith, emptyWords-length, following)) (omega (arith, h .inside .room, following)) part)
               ∙ ap (λ (m : ℕ). over (emptyWords n tick) w m) following;
         }
 
-    pub laid-all : (before : List ℕ) → Room n before → w ≡ sets before 0 (header (emptyBook n tick)) → n < i → s ≡ stored n (emptyBook n tick) before
+    pub laid-all : (before : List ℕ) → Room n before → w ≡ sets before 0 (header (emptyBook n tick)) → n < i
+        → s ≡ stored n (emptyBook n tick) before
     unfolding stored
     laid-all before r e q =
         let started : w ≡ over (emptyWords n tick) before headerLength = e ∙ laid-header before r in
@@ -211,7 +230,8 @@ module _ (n tick : ℕ) where
         h .words
         ∙ rw (last, take-all (storeLength n) (emptyWords n tick) (omega (arith, emptyWords-length)))
         (ap (λ (v : List ℕ). emptyWords n tick ++ v) (ap (λ (v : List ℕ). drop (storeLength n) v) started
-        ∙ over-drop (emptyWords n tick) before headerLength (storeLength n) (omega (arith, emptyWords-length)) (omega arith)))
+        ∙ over-drop (emptyWords n tick) before headerLength (storeLength n) (omega (arith, emptyWords-length))
+        (omega arith)))
 
 ------------------------------------------------------------------------
 -- The call
@@ -225,7 +245,8 @@ inRange-room n w e =
     let r = and-parts (leb n mostRecords) _ (h .1) in
     (leb-true _ _ (h .0), record { few = leb-true _ _ (r .0); room = leb-true _ _ (r .1) })
 
-pub layOut-no : (n tick : ℕ) (w : List ℕ) → inRange n w ≡ false → (refused 2 ≡ layOut n tick w .answer) × (w ≡ layOut n tick w .words)
+pub layOut-no : (n tick : ℕ) (w : List ℕ) → inRange n w ≡ false
+    → (refused 2 ≡ layOut n tick w .answer) × (w ≡ layOut n tick w .words)
 unfolding layOut firstNo decide
 layOut-no n tick w e = rw e (refl, refl)
 

@@ -35,16 +35,19 @@ use Rattle.book.proofs.Slots.{slotAt-entry, slotsAt-at}
 ------------------------------------------------------------------------
 -- One link
 
-pub firstNamed-end : (n : ℕ) (w : List ℕ) (k p : ℕ) (id : Id) (l : List ℕ) → getD w p 0 ≡ 0 → Linked n w k p l → firstNamed w id l ≡ 0
+pub firstNamed-end : (n : ℕ) (w : List ℕ) (k p : ℕ) (id : Id) (l : List ℕ) → getD w p 0 ≡ 0 → Linked n w k p l
+    → firstNamed w id l ≡ 0
 unfolding firstNamed
 firstNamed-end n w k p id [] e h = refl
 firstNamed-end n w k p id (j ∷ l) e h = absurd (omega (arith, h .0, h .1))
 
-pub firstNamed-here : (w : List ℕ) (id : Id) (i : ℕ) (l : List ℕ) → sameId id (entryAt w i .id) ≡ true → firstNamed w id (i ∷ l) ≡ i
+pub firstNamed-here : (w : List ℕ) (id : Id) (i : ℕ) (l : List ℕ) → sameId id (entryAt w i .id) ≡ true
+    → firstNamed w id (i ∷ l) ≡ i
 unfolding firstNamed
 firstNamed-here w id i l e = rw e
 
-pub firstNamed-later : (w : List ℕ) (id : Id) (i : ℕ) (l : List ℕ) → sameId id (entryAt w i .id) ≡ false → firstNamed w id (i ∷ l) ≡ firstNamed w id l
+pub firstNamed-later : (w : List ℕ) (id : Id) (i : ℕ) (l : List ℕ) → sameId id (entryAt w i .id) ≡ false
+    → firstNamed w id (i ∷ l) ≡ firstNamed w id l
 unfolding firstNamed
 firstNamed-later w id i l e = rw e
 
@@ -62,8 +65,11 @@ chain-at-records c w = all-map at (chain c (bookOf w .slots)) (chain-in-book c (
     at : (p : Pending) → InBook (bookOf w .slots) p → AtRecord w p
     at p h =
         let e : 1 + (p .index - 1) ≡ p .index = omega (arith, h .from) in
-        let inside : p .index - 1 < getD w 0 0 = omega (arith, h .from, h .to, slotsAt-length w 1 (getD w 0 0)) in
-        (h .from, slotAt-entry w (p .index) (p .entry) (sym (rw e at (slotsAt-at w 1 (getD w 0 0) (p .index - 1) inside)) ∙ h .there))
+        let inside : p .index - 1 < getD w 0 0 = omega (arith, h .from, h .to, slotsAt-length w 1 (getD w 0 0)) in (
+          h .from,
+          slotAt-entry w (p .index) (p .entry)
+              (sym (rw e at (slotsAt-at w 1 (getD w 0 0) (p .index - 1) inside)) ∙ h .there),
+        )
 
 ------------------------------------------------------------------------
 -- Along both stop chains
@@ -81,7 +87,8 @@ module _ (w : List ℕ) (id : Id) where
 
   -- in one list, then in another
   named-append : (l m : List Pending) → All (AtRecord w) l
-      → indexOr0 (named id (l ++ m)) ≡ cond (eqb (indexOr0 (named id l)) 0) (indexOr0 (named id m)) (indexOr0 (named id l))
+      → indexOr0 (named id (l ++ m)) ≡ cond (eqb (indexOr0 (named id l)) 0) (indexOr0 (named id m))
+      (indexOr0 (named id l))
   unfolding indexOr0 named
   named-append [] m h = refl
   named-append (p ∷ l) m h = cases (sameId id (p .entry .id))
@@ -95,11 +102,13 @@ module _ (w : List ℕ) (id : Id) where
   unfolding chainIndices
   inChain-named c = firstNamed-named (chain c (bookOf w .slots)) (chain-at-records c w)
 
-  lookup-chains : indexOr0 (lookup id (bookOf w)) ≡ cond (eqb (inChain (ByStop Sell)) 0) (inChain (ByStop Buy)) (inChain (ByStop Sell))
+  lookup-chains : indexOr0 (lookup id (bookOf w)) ≡ cond (eqb (inChain (ByStop Sell)) 0) (inChain (ByStop Buy))
+      (inChain (ByStop Sell))
   unfolding lookup
   lookup-chains =
       rw (inChain-named (ByStop Sell), inChain-named (ByStop Buy))
-      (named-append (chain (ByStop Sell) (bookOf w .slots)) (chain (ByStop Buy) (bookOf w .slots)) (chain-at-records (ByStop Sell) w))
+      (named-append (chain (ByStop Sell) (bookOf w .slots)) (chain (ByStop Buy) (bookOf w .slots))
+      (chain-at-records (ByStop Sell) w))
 
   pub lookup-sell : (firstNamed w id (chainIndices (ByStop Sell) (bookOf w)) ≡ 0 → ⊥)
       → indexOr0 (lookup id (bookOf w)) ≡ firstNamed w id (chainIndices (ByStop Sell) (bookOf w))
@@ -125,13 +134,15 @@ module _ (w : List ℕ) (e : wellFormed w ≡ true) (n : ℕ) (q : n ≡ getD w 
     stop-head = rw h (head-inside side _ _ (wellFormed-room w e .room))
 
     -- what the search asks of a side's stop chain
-    pub stop-search : Room n w × ((p : ℕ) × (l : List ℕ) × (getD w p 0 ≡ getD w head 0) × Linked n w nextByStop p l × (length l ≤ n))
+    pub stop-search : Room n w
+        × ((p : ℕ) × (l : List ℕ) × (getD w p 0 ≡ getD w head 0) × Linked n w nextByStop p l × (length l ≤ n))
     stop-search =
         let l = chainIndices (ByStop side) (bookOf w) in
         let linked : Linked n w nextByStop head l = rw h (stop-linked side) in
         (rw (← q) at (wellFormed-room w e), (head, l, refl, linked, linked-length n nextByStop w head l linked))
 
     -- what it finds there
-    pub stop-found : (id : Id) (i : ℕ) → ((p : ℕ) (l : List ℕ) → getD w p 0 ≡ getD w head 0 → Linked n w nextByStop p l → i ≡ firstNamed w id l)
+    pub stop-found : (id : Id) (i : ℕ)
+        → ((p : ℕ) (l : List ℕ) → getD w p 0 ≡ getD w head 0 → Linked n w nextByStop p l → i ≡ firstNamed w id l)
         → i ≡ firstNamed w id (chainIndices (ByStop side) (bookOf w))
     stop-found id i f = f head _ refl (rw h (stop-linked side))

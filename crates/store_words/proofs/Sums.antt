@@ -37,13 +37,15 @@ ofSide-other Buy Sell t n = refl
 ofSide-other Buy Buy t n = absurd (n refl)
 
 module _ (w : List ℕ) (i : ℕ) (side : Side) where
-  pub quantity-same : sideNumber (sideFrom (recordWord w i 3)) ≡ sideNumber side → quantityOf (pendingOn side (slotAt w i)) ≡ recordWord w i 7
+  pub quantity-same : sideNumber (sideFrom (recordWord w i 3)) ≡ sideNumber side
+      → quantityOf (pendingOn side (slotAt w i)) ≡ recordWord w i 7
   unfolding slotAt entryAt pendingOn quantityOf
   quantity-same q = cases (eqb (recordWord w i 7) 0)
       (λ e. rw e (sym (eqb-true _ _ e)))
       (λ e. rw e (ofSide-same side _ (entryAt w i) q))
 
-  pub quantity-other : (sideNumber (sideFrom (recordWord w i 3)) ≡ sideNumber side → ⊥) → quantityOf (pendingOn side (slotAt w i)) ≡ 0
+  pub quantity-other : (sideNumber (sideFrom (recordWord w i 3)) ≡ sideNumber side → ⊥)
+      → quantityOf (pendingOn side (slotAt w i)) ≡ 0
   unfolding slotAt entryAt pendingOn quantityOf
   quantity-other n = cases (eqb (recordWord w i 7) 0) (λ e. rw e) (λ e. rw e (ofSide-other side _ (entryAt w i) n))
 
@@ -68,14 +70,18 @@ module _ (side : Side) (w : List ℕ) (n : ℕ) where
     whole = rw e (omega arith);
   }
 
-  total-first : (i : ℕ) → i ≤ n → total side (slotsAt w i (n + 1 - i)) ≡ quantityOf (pendingOn side (slotAt w i)) + total side (slotsAt w (i + 1) (n + 1 - (i + 1)))
+  total-first : (i : ℕ) → i ≤ n
+      → total side (slotsAt w i (n + 1 - i)) ≡ quantityOf (pendingOn side (slotAt w i)) + total side
+      (slotsAt w (i + 1) (n + 1 - (i + 1)))
   unfolding total slotsAt
   total-first i h =
       let e : n + 1 - i ≡ suc (n + 1 - (i + 1)) = omega arith in
       rw (e, add-one i)
 
-  pub summed-more : (i : ℕ) (sum more : TwoWords) (x : ℕ) → i ≤ n → Summed side w n i sum → x ≡ quantityOf (pendingOn side (slotAt w i))
-      → amount more ≡ amount sum + x → (more .high ≤ sum .high + 1) × (more .low < 2 ^ 64) → Summed side w n (i + 1) more
+  pub summed-more : (i : ℕ) (sum more : TwoWords) (x : ℕ) → i ≤ n → Summed side w n i sum
+      → x ≡ quantityOf (pendingOn side (slotAt w i))
+      → amount more ≡ amount sum + x → (more .high ≤ sum .high + 1) × (more .low < 2 ^ 64)
+      → Summed side w n (i + 1) more
   summed-more i sum more x h s q e f = record {
     least = omega arith;
     most = omega arith;
@@ -84,7 +90,8 @@ module _ (side : Side) (w : List ℕ) (n : ℕ) where
     whole = omega (arith, total-first i h, s .whole, q, e);
   }
 
-  pub summed-all : (i : ℕ) (sum : TwoWords) → n < i → Summed side w n i sum → sum ≡ twoWords (total side (slotsAt w 1 n))
+  pub summed-all : (i : ℕ) (sum : TwoWords) → n < i → Summed side w n i sum
+      → sum ≡ twoWords (total side (slotsAt w 1 n))
   unfolding twoWords total slotsAt
   summed-all i sum h s =
       let e : n + 1 - i ≡ 0 = omega (arith, s .most) in

@@ -93,8 +93,8 @@ pub fn entry_at(s: &[u64], n: u64, i: u64) -> StopEntry
     }
 }
 
-// The first record with this identity from record i on, by the links of a stop chain that has at most left records to go; 0 for none. What
-// is left is the measure by which the calls end; a chain ends by its 0.
+// The first record with this identity from record i on, by the links of a stop chain that has at most left records to
+// go; 0 for none. What is left is the measure by which the calls end; a chain ends by its 0.
 fn find_from(s: &[u64], n: u64, i: u64, left: u64, id: Id) -> u64
     requires { ⌜ Room n (now s) ⌝ }
     requires { ⌜ ((p : ℕ) × (l : List ℕ) × (getD (now s) p 0 ≡ i) × Linked n (now s) nextByStop p l × (length l ≤ left)) ⌝ }

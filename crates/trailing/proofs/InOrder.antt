@@ -1,5 +1,5 @@
--- A chain in order through the walk that trails its stops: as long as no trailed record ranks below the one before, it is the chain of the
--- book after trailing.
+-- A chain in order through the walk that trails its stops: as long as no trailed record ranks below the one before, it
+-- is the chain of the book after trailing.
 use Prim.Native.Nat.{ℕ, _≤_, _<_, _^_}
 use mathlib.Core.Path.{_≡_, sym, ap, _∙_}
 use mathlib.Core.Bool.{Bool, true, false, false≢true}
@@ -36,7 +36,8 @@ module _ (soFar : Bool) (x : ℕ) where
   still-yes y e = rw e
 
   pub still-so : (y : ℕ) → stillInOrder soFar x y ≡ true → (soFar ≡ true) × (x ≤ y)
-  still-so y h = cases (ltb y x) (λ e. absurd (false≢true (sym (still-not y e) ∙ h))) (λ e. (sym (still-yes y e) ∙ h, ltb-false y x e))
+  still-so y h = cases (ltb y x) (λ e. absurd (false≢true (sym (still-not y e) ∙ h)))
+      (λ e. (sym (still-yes y e) ∙ h, ltb-false y x e))
 
   module _ (c : Chain) (w : List ℕ) (i : ℕ) where
     pub ends-none : i ≡ 0 → endsInOrder soFar x c w i ≡ soFar
@@ -63,11 +64,14 @@ module _ (rk : ℕ → ℕ) where
   under-next x f i u le = all-append (λ j. rk j ≤ rk i) f (i ∷ []) (under-more x (rk i) f le u) (omega arith, tt)
 
   -- one that does not rank below those before it stays
-  fold-stays : (x : ℕ) (f : List ℕ) (i : ℕ) (l : List ℕ) → Under x f → x ≤ rk i → foldIn rk f (i ∷ l) ≡ foldIn rk (f ++ (i ∷ [])) l
-  fold-stays x f i l u le = fold-next rk f i l ∙ ap (λ (g : List ℕ). foldIn rk g l) (insertRanked-end rk i f (under-more x (rk i) f le u))
+  fold-stays : (x : ℕ) (f : List ℕ) (i : ℕ) (l : List ℕ) → Under x f → x ≤ rk i
+      → foldIn rk f (i ∷ l) ≡ foldIn rk (f ++ (i ∷ [])) l
+  fold-stays x f i l u le =
+      fold-next rk f i l ∙ ap (λ (g : List ℕ). foldIn rk g l) (insertRanked-end rk i f (under-more x (rk i) f le u))
 
   -- and so do all of a list that ascends
-  pub fold-ascending : (x : ℕ) (f l : List ℕ) → Under x f → All (λ j. x ≤ rk j) l → Ascending rk l → foldIn rk f l ≡ f ++ l
+  pub fold-ascending : (x : ℕ) (f l : List ℕ) → Under x f → All (λ j. x ≤ rk j) l → Ascending rk l
+      → foldIn rk f l ≡ f ++ l
   fold-ascending x f [] u o a = fold-none rk f ∙ sym (append-nil f)
   fold-ascending x f (i ∷ l) u o a =
       fold-stays x f i l u (o .0)
@@ -98,14 +102,16 @@ module _ (side : Side) (price : Price) (b : Book) where
             ∙ resorted (trailedSlot side price) (trailedSlot-keeps side price) b fits tv tf (ByWatermark side);
       }
 
-  pub order-next : (front : List ℕ) (i : ℕ) (after : List ℕ) (x y : ℕ) → Order front (i ∷ after) x → x ≤ y → y ≡ ranked i
+  pub order-next : (front : List ℕ) (i : ℕ) (after : List ℕ) (x y : ℕ) → Order front (i ∷ after) x → x ≤ y
+      → y ≡ ranked i
       → Order (front ++ (i ∷ [])) after y
   order-next front i after x y o le e = record {
     below = rw e (under-next ranked x front i (o .below) (omega (arith, e)));
     sorts = sym (fold-stays ranked x front i after (o .below) (omega (arith, e))) ∙ o .sorts;
   }
 
-  pub order-ends : (front rest : List ℕ) (x : ℕ) → chainIndices (ByWatermark side) b ≡ front ++ rest → Order front rest x
+  pub order-ends : (front rest : List ℕ) (x : ℕ) → chainIndices (ByWatermark side) b ≡ front ++ rest
+      → Order front rest x
       → All (λ j. x ≤ ranked j) rest → Ascending ranked rest
       → chainIndices (ByWatermark side) (trailedOn side price b) ≡ chainIndices (ByWatermark side) b
   order-ends front rest x e o over a = sym (o .sorts) ∙ fold-ascending ranked x front rest (o .below) over a ∙ sym e

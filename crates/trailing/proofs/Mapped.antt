@@ -1,4 +1,5 @@
--- A book whose stops change but for their identities, sides and sequences: it has the same members, and each chain is the old one sorted anew.
+-- A book whose stops change but for their identities, sides and sequences: it has the same members, and each chain is
+-- the old one sorted anew.
 use Prim.Native.Nat.{ℕ, suc, _-_}
 use mathlib.Core.Path.{_≡_, refl, sym, ap, _∙_}
 use mathlib.Core.Bool.{true}
@@ -96,24 +97,31 @@ module _ (f : Slot → Slot) (k : Keeps f) where
       rw (
         g,
         all-every (differs u) (map f ss)
-            (all-mapped (λ x. differs t x ≡ true) (λ x. differs u x ≡ true) f (differs-mapped t u s) ss (every-all (differs t) ss (h .0))),
+            (all-mapped (λ x. differs t x ≡ true)
+            (λ x. differs u x ≡ true) f (differs-mapped t u s) ss (every-all (differs t) ss (h .0))),
       ) (allDiffer-mapped ss (h .1))
 
   ------------------------------------------------------------------------
   -- The book
 
-  pub mapped-valid : (b : Book) → ((s : Slot) → soundStop (b .next) (b .tick) s ≡ true → soundStop (b .next) (b .tick) (f s) ≡ true)
+  pub mapped-valid : (b : Book)
+      → ((s : Slot) → soundStop (b .next) (b .tick) s ≡ true → soundStop (b .next) (b .tick) (f s) ≡ true)
       → Valid b → Valid (mapped f b)
   mapped-valid b sound v = record {
     some-records = rw length-map (v .some-records);
     few-records = rw length-map (v .few-records);
-    sound = all-mapped (λ s. soundStop (b .next) (b .tick) s ≡ true) (λ s. soundStop (b .next) (b .tick) s ≡ true) f sound (b .slots) (v .sound);
+    sound = all-mapped (λ s. soundStop (b .next) (b .tick) s ≡ true)
+        (λ s. soundStop (b .next) (b .tick) s ≡ true) f sound (b .slots) (v .sound);
     differ = allDiffer-mapped (b .slots) (v .differ);
     free-vacant = v .free-vacant ∙ sym (vacantIndices-mapped 1 (b .slots));
   }
 
   pub mapped-fits : (b : Book) → ((s : Slot) → SlotFits s → SlotFits (f s)) → Fits b → Fits (mapped f b)
-  mapped-fits b fits h = record { next = h .next; tick = h .tick; slots = all-mapped SlotFits SlotFits f fits (b .slots) (h .slots) }
+  mapped-fits b fits h = record {
+    next = h .next;
+    tick = h .tick;
+    slots = all-mapped SlotFits SlotFits f fits (b .slots) (h .slots);
+  }
 
   module _ (b : Book) (bf : Fits b) (v : Valid (mapped f b)) (mf : Fits (mapped f b)) (c : Chain) where
     abbrev here : List ℕ
@@ -125,10 +133,12 @@ module _ (f : Slot → Slot) (k : Keeps f) where
     differ : RanksDiffer ranked here
     differ =
         rw members-mapped at
-        (differ-members ranked (members (chainSide c) 1 (map f (b .slots))) (members-ranks c (map f (b .slots)) (v .differ) (mf .slots)))
+        (differ-members ranked (members (chainSide c) 1 (map f (b .slots)))
+        (members-ranks c (map f (b .slots)) (v .differ) (mf .slots)))
 
     pub resorts : RanksDiffer ranked (chainIndices c b)
-    resorts i j hi hj = differ i j (rw (chain-members c b (bf .slots), has-sortRanked) at hi) (rw (chain-members c b (bf .slots), has-sortRanked) at hj)
+    resorts i j hi hj = differ i j (rw (chain-members c b (bf .slots), has-sortRanked) at hi)
+        (rw (chain-members c b (bf .slots), has-sortRanked) at hj)
 
     -- a chain, sorted anew
     pub resorted : sortRanked ranked (chainIndices c b) ≡ chainIndices c (mapped f b)
@@ -137,23 +147,27 @@ module _ (f : Slot → Slot) (k : Keeps f) where
         (sortRanked-again ranked (rankIn c (b .slots)) here differ)
 
     -- a chain of stops that stay
-    pub unmoved : ((t : StopEntry) → chainSide c ≡ sideOf t → f (held t) ≡ held t) → chainIndices c b ≡ chainIndices c (mapped f b)
+    pub unmoved : ((t : StopEntry) → chainSide c ≡ sideOf t → f (held t) ≡ held t)
+        → chainIndices c b ≡ chainIndices c (mapped f b)
     unmoved h =
         rw (chain-members c b (bf .slots), chain-members c (mapped f b) (mf .slots), members-mapped)
         (sortRanked-cong (rankIn c (b .slots)) ranked here
         (λ j t.
         let m = all-has (Member (chainSide c) (b .slots)) here (members-held (chainSide c) (b .slots)) j t in
-        ap (rankOfSlot c) (m .there ∙ sym (h (m .entry) (m .of-side)) ∙ sym (ap f (m .there)) ∙ sym (slot-mapped (b .slots) (j - 1)))))
+        ap (rankOfSlot c) (m .there ∙ sym (h (m .entry) (m .of-side)) ∙ sym (ap f (m .there))
+        ∙ sym (slot-mapped (b .slots) (j - 1)))))
 
     ------------------------------------------------------------------------
     -- By words that hold the new stops
 
-    module _ {n : ℕ} {w : List ℕ} {count next tick : ℕ} {r : List ℕ} (h : Contents n w count next tick (map f (b .slots)) r) where
+    module _ {n : ℕ} {w : List ℕ} {count next tick : ℕ} {r : List ℕ}
+        (h : Contents n w count next tick (map f (b .slots)) r) where
       rank-words : (j : ℕ) → T (has j (chainIndices c b)) → rankAt c w j ≡ ranked j
       rank-words j t =
           let m = chain-member c b bf j t in
           let (u, e, s) = k .full (m .entry) in
-          contents-rank h c j u (m .from) (rw (← h .records, length-map) (m .to)) (slot-mapped (b .slots) (j - 1) ∙ ap f (m .there) ∙ e)
+          contents-rank h c j u (m .from) (rw (← h .records, length-map) (m .to))
+          (slot-mapped (b .slots) (j - 1) ∙ ap f (m .there) ∙ e)
 
       pub words-differ : RanksDiffer (rankAt c w) (chainIndices c b)
       words-differ i j hi hj e = resorts i j hi hj (sym (rank-words i hi) ∙ e ∙ rank-words j hj)

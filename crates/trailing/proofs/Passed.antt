@@ -35,27 +35,33 @@ lexicographic-first true x y tie e f g = f refl
 lexicographic-first false x y tie e f g = g (eqb-true x y (and-parts (eqb x y) tie e .0))
 
 -- a stop after another in a watermark chain has a watermark at or past that one's
-watermarks-past : (side : Side) (t u : StopEntry) → before (ByWatermark side) t u ≡ true → behind side (watermarkOf u) (watermarkOf t) ≡ false
+watermarks-past : (side : Side) (t u : StopEntry) → before (ByWatermark side) t u ≡ true
+    → behind side (watermarkOf u) (watermarkOf t) ≡ false
 unfolding before behind
 watermarks-past Sell t u e =
-    lexicographic-first (ltb (watermarkOf t) (watermarkOf u)) (watermarkOf t) (watermarkOf u) (ltb (seqOf t) (seqOf u)) e
+    lexicographic-first (ltb (watermarkOf t) (watermarkOf u)) (watermarkOf t) (watermarkOf u)
+    (ltb (seqOf t) (seqOf u)) e
     (λ h. le-ltb (watermarkOf u) (watermarkOf t) (omega (arith, ltb-true (watermarkOf t) (watermarkOf u) h)))
     (λ h. le-ltb (watermarkOf u) (watermarkOf t) (omega arith))
 watermarks-past Buy t u e =
-    lexicographic-first (ltb (watermarkOf u) (watermarkOf t)) (watermarkOf t) (watermarkOf u) (ltb (seqOf u) (seqOf t)) e
+    lexicographic-first (ltb (watermarkOf u) (watermarkOf t)) (watermarkOf t) (watermarkOf u)
+    (ltb (seqOf u) (seqOf t)) e
     (λ h. le-ltb (watermarkOf t) (watermarkOf u) (omega (arith, ltb-true (watermarkOf u) (watermarkOf t) h)))
     (λ h. le-ltb (watermarkOf t) (watermarkOf u) (omega arith))
 
-later-past : (side : Side) (price : ℕ) (t u : StopEntry) → StopFits t → StopFits u → rank (ByWatermark side) t < rank (ByWatermark side) u
+later-past : (side : Side) (price : ℕ) (t u : StopEntry) → StopFits t → StopFits u
+    → rank (ByWatermark side) t < rank (ByWatermark side) u
     → behind side (watermarkOf t) price ≡ false → behind side (watermarkOf u) price ≡ false
 later-past side price t u f g lt h =
     past-trans side price (watermarkOf t) (watermarkOf u) h
-    (watermarks-past side t u (before-rank (ByWatermark side) t u f g ∙ lt-ltb (rank (ByWatermark side) t) (rank (ByWatermark side) u) lt))
+    (watermarks-past side t u
+    (before-rank (ByWatermark side) t u f g ∙ lt-ltb (rank (ByWatermark side) t) (rank (ByWatermark side) u) lt))
 
 pub chain-ascending : (c : Chain) (b : Book) → Valid b → Fits b → Ascending (rankIn c (b .slots)) (chainIndices c b)
 chain-ascending c b v f =
     rw (chain-members c b (f .slots))
-    (sortRanked-ascending (rankIn c (b .slots)) (members (chainSide c) 1 (b .slots)) (members-ranks c (b .slots) (v .differ) (f .slots)))
+    (sortRanked-ascending (rankIn c (b .slots)) (members (chainSide c) 1 (b .slots))
+    (members-ranks c (b .slots) (v .differ) (f .slots)))
 
 pub ascending-rest : (rk : ℕ → ℕ) (f l : List ℕ) → Ascending rk (f ++ l) → Ascending rk l
 ascending-rest rk [] l a = a
@@ -68,7 +74,8 @@ module _ (side : Side) (price : ℕ) (b : Book) (v : Valid b) (fits : Fits b) wh
   -- where the price has not passed the next stop of the chain, it has passed none of those to come
   pub rest-past : (front : List ℕ) (i : ℕ) (after : List ℕ) → chainIndices (ByWatermark side) b ≡ front ++ (i ∷ after)
       → (m : Member side (b .slots) i) → behind side (watermarkOf (m .entry)) price ≡ false
-      → (j : ℕ) → T (has j (i ∷ after)) → (o : Member side (b .slots) j) → behind side (watermarkOf (o .entry)) price ≡ false
+      → (j : ℕ) → T (has j (i ∷ after)) → (o : Member side (b .slots) j)
+      → behind side (watermarkOf (o .entry)) price ≡ false
   rest-past front i after e m h j t o = has-cases j i after t
       (λ q. let same : m .entry ≡ o .entry = held-same (rw q at (m .there)) (o .there) in rw same at h)
       (λ u. later-past side price (m .entry) (o .entry) (member-fits i m) (member-fits j o) (above u) h)

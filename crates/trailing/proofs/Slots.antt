@@ -32,7 +32,8 @@ isSide-other Buy Sell n = refl
 isSide-other Buy Buy n = absurd (n refl)
 
 -- a stop that the price has not passed does not move
-pub moves-still : (price : Price) (t : StopEntry) → behind (sideOf t) (watermarkOf t) (price .0) ≡ false → moves price t ≡ 0
+pub moves-still : (price : Price) (t : StopEntry) → behind (sideOf t) (watermarkOf t) (price .0) ≡ false
+    → moves price t ≡ 0
 unfolding moves
 moves-still price t h = rw (trailed-still price t h, eq-eqb (stopOf t) (stopOf t) refl)
 
@@ -54,7 +55,8 @@ module _ (side : Side) (price : Price) where
   trailedSlot-still t e h = trailedSlot-own t e ∙ ap held (trailed-still price t h)
 
   -- what holds of a stop, and of it trailed, holds of it after trailing of a side
-  trailedSlot-all : (P : Slot → Type 0) (s : Slot) → P s → ((t : StopEntry) → s ≡ held t → P (held (trailed price t))) → P (trailedSlot side price s)
+  trailedSlot-all : (P : Slot → Type 0) (s : Slot) → P s → ((t : StopEntry) → s ≡ held t → P (held (trailed price t)))
+      → P (trailedSlot side price s)
   unfolding trailedSlot
   trailedSlot-all P vacant p h = p
   trailedSlot-all P (held t) p h = cases (isSide side (sideOf t)) (λ e. rw e (h t refl)) (λ e. rw e p)
@@ -71,9 +73,11 @@ module _ (side : Side) (price : Price) where
   unfolding trailedOn
   trailedOn-valid b v =
       mapped-valid (trailedSlot side price) trailedSlot-keeps b
-      (λ s e. trailedSlot-all (λ u. soundStop (b .next) (b .tick) u ≡ true) s e (λ t q. trailed-sound (b .next) (b .tick) price t (rw q at e))) v
+      (λ s e. trailedSlot-all (λ u. soundStop (b .next) (b .tick) u ≡ true) s e
+      (λ t q. trailed-sound (b .next) (b .tick) price t (rw q at e))) v
 
   pub trailedOn-fits : (b : Book) → price .0 < 2 ^ 64 → Fits b → Fits (trailedOn side price b)
   unfolding trailedOn
   trailedOn-fits b p h =
-      mapped-fits (trailedSlot side price) trailedSlot-keeps b (λ s f. trailedSlot-all SlotFits s f (λ t q. trailed-fits price t p (rw q at f))) h
+      mapped-fits (trailedSlot side price) trailedSlot-keeps b
+      (λ s f. trailedSlot-all SlotFits s f (λ t q. trailed-fits price t p (rw q at f))) h

@@ -1,4 +1,5 @@
--- The walk along a watermark chain that trails its stops: what stands when it has come to a record, and what each turn makes of it.
+-- The walk along a watermark chain that trails its stops: what stands when it has come to a record, and what each turn
+-- makes of it.
 use Prim.Native.Nat.{ℕ, suc, _+_, _-_, _≤_, _<_, _^_}
 use mathlib.Core.Path.{_≡_, refl, sym, ap, _∙_}
 use mathlib.Core.Bool.{Bool, true, false, cond}
@@ -57,7 +58,8 @@ module _ (n : ℕ) (side : Side) (price : Price) (b : Book) (r : List ℕ) where
   abbrev new : ℕ → Slot
   new j = trailedSlot side price (old j)
 
-  -- the chain is front, rest, and the word at p names the rest: the records of rest hold what they held, all others are trailed
+  -- the chain is front, rest, and the word at p names the rest: the records of rest hold what they held, all others are
+  -- trailed
   pub record Walked (w : List ℕ) (p moved left : ℕ) : Type 0 where
     pub front : List ℕ
     pub rest : List ℕ
@@ -82,21 +84,30 @@ module _ (n : ℕ) (side : Side) (price : Price) (b : Book) (r : List ℕ) where
           at = e;
           chained = s .chained;
           contents = s .contents;
-          holds = λ j low high. cases (has j (chainIndices own b)) (λ t. rw t) (λ t. rw t (sym (other j low high t (old j) refl)));
+          holds = λ j low high. cases (has j (chainIndices own b)) (λ t. rw t)
+              (λ t. rw t (sym (other j low high t (old j) refl)));
           short = linked-length n (linkOf own) w0 (headOf own) (chainIndices own b) (s .chained .linked (Ordered own));
           count = omega (arith, chain-moves price side b);
         }
       where
         -- a record that is not in the chain holds no stop of the side
-        other : (j : ℕ) → 1 ≤ j → j ≤ n → has j (chainIndices own b) ≡ false → (s : Slot) → old j ≡ s → trailedSlot side price s ≡ s
+        other : (j : ℕ) → 1 ≤ j → j ≤ n → has j (chainIndices own b) ≡ false → (s : Slot) → old j ≡ s
+            → trailedSlot side price s ≡ s
         other j low high t vacant q = trailedSlot-vacant side price
         other j low high t (held u) q =
             trailedSlot-other side price u
-            (λ d. rw t at (member-chain own b (st .fits) j (record { from = low; to = rw (st .records) high; entry = u; there = q; of-side = d })))
+            (λ d. rw t at (member-chain own b (st .fits) j (record {
+              from = low;
+              to = rw (st .records) high;
+              entry = u;
+              there = q;
+              of-side = d;
+            })))
 
     module _ (w : List ℕ) (p moved left : ℕ) (s : Walked w p moved left) where
       to-come : Linked n w (linkOf own) p (s .rest)
-      to-come = rw (s .at) (linked-after n w (linkOf own) (headOf own) (s .front) (s .rest) (rw (s .is) at (s .chained .linked (Ordered own))))
+      to-come = rw (s .at) (linked-after n w (linkOf own) (headOf own) (s .front) (s .rest)
+          (rw (s .is) at (s .chained .linked (Ordered own))))
 
       pub names : Names n w p
       names = record {
@@ -131,32 +142,41 @@ module _ (n : ℕ) (side : Side) (price : Price) (b : Book) (r : List ℕ) where
           → behind side (watermarkOf (member j t .entry)) (price .0) ≡ false
       still z j t = go (s .rest) refl to-come
         where
-          go : (l : List ℕ) → s .rest ≡ l → Linked n w (linkOf own) p l → behind side (watermarkOf (member j t .entry)) (price .0) ≡ false
+          go : (l : List ℕ) → s .rest ≡ l → Linked n w (linkOf own) p l
+              → behind side (watermarkOf (member j t .entry)) (price .0) ≡ false
           go [] e d = absurd (has-none j (rw e at t))
           go (i ∷ l) e d =
               let here : T (has i (s .rest)) = rw e (has-here i l) in
               let first = behind-none side price w i (rw (d .0) at z) (d .1) in
-              rest-past side (price .0) b (st .valid) (st .fits) (s .front) i l (rw e at (s .is)) (member i here) (rw (entry i here) at first)
+              rest-past side (price .0) b (st .valid) (st .fits) (s .front) i l (rw e at (s .is)) (member i here)
+              (rw (entry i here) at first)
               j (rw e at t) (member j t)
 
       side-same : ifBehind side price w (getD w p 0) ≡ 0 → (j : ℕ) (t : T (has j (s .rest)))
           → behind (sideOf (member j t .entry)) (watermarkOf (member j t .entry)) (price .0) ≡ false
-      side-same z j t = ap (λ (d : Side). behind d (watermarkOf (member j t .entry)) (price .0)) (sym (member j t .of-side)) ∙ still z j t
+      side-same z j t = ap (λ (d : Side). behind d (watermarkOf (member j t .entry)) (price .0))
+          (sym (member j t .of-side)) ∙ still z j t
 
       -- and so they stay
-      keeps : ifBehind side price w (getD w p 0) ≡ 0 → (j : ℕ) (t : T (has j (s .rest))) → new j ≡ held (member j t .entry)
-      keeps z j t = rw (member j t .there) (trailedSlot-still side price (member j t .entry) (member j t .of-side) (side-same z j t))
+      keeps : ifBehind side price w (getD w p 0) ≡ 0 → (j : ℕ) (t : T (has j (s .rest)))
+          → new j ≡ held (member j t .entry)
+      keeps z j t = rw (member j t .there)
+          (trailedSlot-still side price (member j t .entry) (member j t .of-side) (side-same z j t))
 
-      ends : ifBehind side price w (getD w p 0) ≡ 0 → (s .slots ≡ map (trailedSlot side price) (b .slots)) × (moved ≡ length (movedOn price side b))
+      ends : ifBehind side price w (getD w p 0) ≡ 0
+          → (s .slots ≡ map (trailedSlot side price) (b .slots)) × (moved ≡ length (movedOn price side b))
       ends z = (
         ext-getD vacant (s .slots) (map (trailedSlot side price) (b .slots))
             (s .contents .records ∙ sym (st .records) ∙ sym (length-map (b .slots) (trailedSlot side price)))
-            (λ k l. let e : suc k - 1 ≡ k = omega arith in rw e at (all (suc k) (omega arith) (omega (arith, s .contents .records)))),
+            (λ k l. let e : suc k - 1 ≡ k = omega arith in
+            rw e at (all (suc k) (omega arith) (omega (arith, s .contents .records)))),
         omega (arith, s .count, movesIn-none price (b .slots) (s .rest) none),
       )
         where
-          all : (j : ℕ) → 1 ≤ j → j ≤ n → getD (s .slots) (j - 1) vacant ≡ getD (map (trailedSlot side price) (b .slots)) (j - 1) vacant
-          all j low high = rw (slot-mapped (trailedSlot side price) (trailedSlot-keeps side price) (b .slots) (j - 1)) (cases (has j (s .rest))
+          all : (j : ℕ) → 1 ≤ j → j ≤ n
+              → getD (s .slots) (j - 1) vacant ≡ getD (map (trailedSlot side price) (b .slots)) (j - 1) vacant
+          all j low high = rw (slot-mapped (trailedSlot side price) (trailedSlot-keeps side price) (b .slots) (j - 1))
+              (cases (has j (s .rest))
               (λ e. let t : T (has j (s .rest)) = rw e tt in waits j t ∙ sym (keeps z j t))
               (λ e. rw e at (s .holds j low high)))
 
@@ -172,10 +192,12 @@ module _ (n : ℕ) (side : Side) (price : Price) (b : Book) (r : List ℕ) where
           (e .1, record { contents = rw (e .0, ← count) at (s .contents); chained = s .chained })
 
       -- ranks of those to come, by the words and in both books
-      ranks-keep : ifBehind side price w (getD w p 0) ≡ 0 → (j : ℕ) → T (has j (s .rest)) → rankIn own (b .slots) j ≡ ranked side price b j
+      ranks-keep : ifBehind side price w (getD w p 0) ≡ 0 → (j : ℕ) → T (has j (s .rest))
+          → rankIn own (b .slots) j ≡ ranked side price b j
       ranks-keep z j t =
           ap (rankOfSlot own)
-          (member j t .there ∙ sym (keeps z j t) ∙ sym (slot-mapped (trailedSlot side price) (trailedSlot-keeps side price) (b .slots) (j - 1)))
+          (member j t .there ∙ sym (keeps z j t)
+          ∙ sym (slot-mapped (trailedSlot side price) (trailedSlot-keeps side price) (b .slots) (j - 1)))
 
       rank-waits : (j : ℕ) → T (has j (s .rest)) → rankAt own w j ≡ rankIn own (b .slots) j
       rank-waits j t =
@@ -184,20 +206,30 @@ module _ (n : ℕ) (side : Side) (price : Price) (b : Book) (r : List ℕ) where
 
       -- what was in order so far stays so, if the first of those to come does not rank below
       ends-in-order : ifBehind side price w (getD w p 0) ≡ 0 → (x : ℕ) → Order side price b (s .front) (s .rest) x
-          → (1 ≤ getD w p 0 → x ≤ rankAt own w (getD w p 0)) → chainIndices own (trailedOn side price b) ≡ chainIndices own b
-      ends-in-order z x o le = order-ends side price b (s .front) (s .rest) x (s .is) o (over (s .rest) refl to-come ascends) ascends
+          → (1 ≤ getD w p 0 → x ≤ rankAt own w (getD w p 0))
+          → chainIndices own (trailedOn side price b) ≡ chainIndices own b
+      ends-in-order z x o le =
+          order-ends side price b (s .front) (s .rest) x (s .is) o (over (s .rest) refl to-come ascends) ascends
         where
           ascends : Ascending (ranked side price b) (s .rest)
           ascends =
               ascending-alike (rankIn own (b .slots)) (ranked side price b) (s .rest)
               (has-all (λ j. rankIn own (b .slots) j ≡ ranked side price b j) (s .rest) (ranks-keep z))
-              (ascending-rest (rankIn own (b .slots)) (s .front) (s .rest) (rw (s .is) at (chain-ascending own b (st .valid) (st .fits))))
+              (ascending-rest (rankIn own (b .slots)) (s .front) (s .rest)
+              (rw (s .is) at (chain-ascending own b (st .valid) (st .fits))))
 
-          over : (l : List ℕ) → s .rest ≡ l → Linked n w (linkOf own) p l → Ascending (ranked side price b) l → All (λ j. x ≤ ranked side price b j) l
+          over : (l : List ℕ) → s .rest ≡ l → Linked n w (linkOf own) p l → Ascending (ranked side price b) l
+              → All (λ j. x ≤ ranked side price b j) l
           over [] e d a = tt
           over (i ∷ l) e d a =
               let here : T (has i (s .rest)) = rw e (has-here i l) in
-              let first : x ≤ ranked side price b i = omega (arith, rw (d .0) at (le (omega (arith, d .0, d .1))), rank-waits i here, ranks-keep z i here) in
+              let first : x ≤ ranked side price b i =
+              omega (
+                arith,
+                rw (d .0) at (le (omega (arith, d .0, d .1))),
+                rank-waits i here,
+                ranks-keep z i here,
+              ) in
               (first, all-map {P = λ j. ranked side price b i < ranked side price b j} {Q = λ j. x ≤ ranked side price b j} (λ j h. omega arith) l (a .0))
 
       ------------------------------------------------------------------------
@@ -217,7 +249,11 @@ module _ (n : ℕ) (side : Side) (price : Price) (b : Book) (r : List ℕ) where
 
           go : (l : List ℕ) → s .rest ≡ l → Linked n w (linkOf own) p l → Next i
           go [] q d = absurd (z (told ∙ d))
-          go (j ∷ l) q d = rw (told ∙ d .0) (record { after = l; is = q; at = record { least = d .1; most = d .2; inside = s .chained .inside } })
+          go (j ∷ l) q d = rw (told ∙ d .0) (record {
+            after = l;
+            is = q;
+            at = record { least = d .1; most = d .2; inside = s .chained .inside };
+          })
 
       module _ (i : ℕ) (m : Next i) where
         here : T (has i (s .rest))
@@ -231,7 +267,8 @@ module _ (n : ℕ) (side : Side) (price : Price) (b : Book) (r : List ℕ) where
 
         gone : has i (m .after) ≡ false
         gone = cases (has i (m .after))
-            (λ e. absurd (distinct-absent i (m .after) (linked-distinct n (linkOf own) w p (i ∷ m .after) (rw (m .is) at to-come)) (rw e tt)))
+            (λ e. absurd (distinct-absent i (m .after)
+            (linked-distinct n (linkOf own) w p (i ∷ m .after) (rw (m .is) at to-come)) (rw e tt)))
             (λ e. e)
 
         -- what records hold then
@@ -239,25 +276,30 @@ module _ (n : ℕ) (side : Side) (price : Price) (b : Book) (r : List ℕ) where
         slots' = set (s .slots) (i - 1) (held (trailed price stop))
 
         set-here : getD slots' (i - 1) vacant ≡ held (trailed price stop)
-        set-here = getD-set-same (s .slots) (i - 1) (held (trailed price stop)) vacant (omega (arith, m .at .least, m .at .most, s .contents .records))
+        set-here = getD-set-same (s .slots) (i - 1)
+            (held (trailed price stop)) vacant (omega (arith, m .at .least, m .at .most, s .contents .records))
 
         new-here : new i ≡ held (trailed price stop)
-        new-here = ap (trailedSlot side price) (member i here .there) ∙ trailedSlot-own side price stop (member i here .of-side)
+        new-here = ap (trailedSlot side price) (member i here .there)
+            ∙ trailedSlot-own side price stop (member i here .of-side)
 
         here-new : getD slots' (i - 1) vacant ≡ cond (has i (m .after)) (old i) (new i)
         here-new = rw gone (set-here ∙ sym new-here)
 
-        other-same : (j : ℕ) → 1 ≤ j → j ≤ n → (i ≡ j → ⊥) → getD slots' (j - 1) vacant ≡ cond (has j (m .after)) (old j) (new j)
+        other-same : (j : ℕ) → 1 ≤ j → j ≤ n → (i ≡ j → ⊥)
+            → getD slots' (j - 1) vacant ≡ cond (has j (m .after)) (old j) (new j)
         unfolding has
         other-same j low high ne =
-            getD-set-other (s .slots) (i - 1) (j - 1) (held (trailed price stop)) vacant (λ e. ne (omega (arith, m .at .least)))
+            getD-set-other (s .slots) (i - 1) (j - 1)
+            (held (trailed price stop)) vacant (λ e. ne (omega (arith, m .at .least)))
             ∙ (rw (m .is, ne-eqb i j ne) at (s .holds j low high))
 
         same-moves : moves price (entryAt w i) ≡ movesSlot price (old i)
         same-moves = rw (member i here .there) (ap (moves price) (entry i here))
 
         module _ (w' : List ℕ)
-            (ew : w' ≡ sets w (cell i 4) (stopOf (trailed price (entryAt w i)) ∷ watermarkOf (trailed price (entryAt w i)) ∷ [])) where
+            (ew : w' ≡ sets w (cell i 4)
+            (stopOf (trailed price (entryAt w i)) ∷ watermarkOf (trailed price (entryAt w i)) ∷ [])) where
           chained-new : Chained n w' (chainsOf b)
           chained-new = rw ew (chained-written n w i (m .at) _ _ (s .chained))
 
@@ -267,7 +309,8 @@ module _ (n : ℕ) (side : Side) (price : Price) (b : Book) (r : List ℕ) where
               (ap (λ (t : StopEntry). stopOf (trailed price t)) (entry i here))
               (ap (λ (t : StopEntry). watermarkOf (trailed price t)) (entry i here)))
 
-          goes-on : (p' moved' : ℕ) → p' ≡ cell i (linkOf own) → moved' ≡ moved + moves price (entryAt w i) → Walked w' p' moved' (left - 1)
+          goes-on : (p' moved' : ℕ) → p' ≡ cell i (linkOf own) → moved' ≡ moved + moves price (entryAt w i)
+              → Walked w' p' moved' (left - 1)
           goes-on p' moved' ep em = record {
             front = s .front ++ (i ∷ []);
             rest = m .after;
@@ -276,9 +319,17 @@ module _ (n : ℕ) (side : Side) (price : Price) (b : Book) (r : List ℕ) where
             at = ep ∙ sym (wordAfter-end (linkOf own) (headOf own) (s .front) i);
             chained = chained-new;
             contents = contents-new;
-            holds = λ j low high. cases (eqb i j) (λ e. rw (← eqb-true i j e) here-new) (λ e. other-same j low high (eqb-false i j e));
+            holds = λ j low high. cases (eqb i j) (λ e. rw (← eqb-true i j e) here-new)
+                (λ e. other-same j low high (eqb-false i j e));
             short = omega (arith, s .short, ap length (m .is));
-            count = omega (arith, em, s .count, movesIn-next price (b .slots) i (m .after), ap (movesIn price (b .slots)) (m .is), same-moves);
+            count = omega (
+              arith,
+              em,
+              s .count,
+              movesIn-next price (b .slots) i (m .after),
+              ap (movesIn price (b .slots)) (m .is),
+              same-moves,
+            );
           }
 
           -- it ranks then as in the book after
@@ -286,7 +337,8 @@ module _ (n : ℕ) (side : Side) (price : Price) (b : Book) (r : List ℕ) where
           rank-new =
               contents-rank contents-new own i (trailed price stop) (m .at .least) (m .at .most) set-here
               ∙ ap (rankOfSlot own)
-              (set-here ∙ sym new-here ∙ sym (slot-mapped (trailedSlot side price) (trailedSlot-keeps side price) (b .slots) (i - 1)))
+              (set-here ∙ sym new-here
+              ∙ sym (slot-mapped (trailedSlot side price) (trailedSlot-keeps side price) (b .slots) (i - 1)))
 
 -- where the price has passed no stop of the side, nothing changes
 pub idle-stored : (n : ℕ) (w : List ℕ) (b : Book) (r : List ℕ) (side : Side) (price : Price) → Stored n w b r
@@ -299,7 +351,8 @@ idle-stored n w b r side price st h e i q z =
 
 moves-most : (price : Price) (t : StopEntry) (m : ℕ) → m ≡ moves price t → m ≤ 1
 unfolding moves
-moves-most price t m h = cases (eqb (stopOf (trailed price t)) (stopOf t)) (λ e. omega (arith, rw e at h)) (λ e. omega (arith, rw e at h))
+moves-most price t m h =
+    cases (eqb (stopOf (trailed price t)) (stopOf t)) (λ e. omega (arith, rw e at h)) (λ e. omega (arith, rw e at h))
 
 ------------------------------------------------------------------------
 -- The turns of the loop, for whatever book the words w0 are those of
@@ -327,11 +380,13 @@ module _ (n : ℕ) (w0 : List ℕ) (side : Side) (price : Price) where
         → (moved ≡ length (movedOn price side b)) × Unsorted n w b (trailedOn side price b) r
     turn-ends z b r st = ends-unsorted n side price b r w0 st w p moved left (v .walked b r st) i ei z
 
-    pub turn-sorted : i ≡ 0 → (t : Bool) → t ≡ endsInOrder sorted x (ByWatermark side) w (getD w p 0) → (b : Book) (r : List ℕ) → Stored n w0 b r
+    pub turn-sorted : i ≡ 0 → (t : Bool) → t ≡ endsInOrder sorted x (ByWatermark side) w (getD w p 0)
+        → (b : Book) (r : List ℕ) → Stored n w0 b r
         → t ≡ true → chainIndices (ByWatermark side) (trailedOn side price b) ≡ chainIndices (ByWatermark side) b
     turn-sorted z t et b r st h =
         let so = ends-so sorted x (ByWatermark side) w (getD w p 0) (sym et ∙ h) in
-        ends-in-order n side price b r w0 st w p moved left (v .walked b r st) (sym ei ∙ z) x (v .order b r st (so .0)) (so .1)
+        ends-in-order n side price b r w0 st w p moved left (v .walked b r st) (sym ei ∙ z) x (v .order b r st (so .0))
+        (so .1)
 
     module _ (z : i ≡ 0 → ⊥) where
       -- the book that there is
@@ -350,24 +405,28 @@ module _ (n : ℕ) (w0 : List ℕ) (side : Side) (price : Price) where
         turn-most = omega (arith, v .bound, moves-most price (entryAt w i) m em)
 
         module _ (w' : List ℕ)
-            (ew : w' ≡ sets w (cell i 4) (stopOf (trailed price (entryAt w i)) ∷ watermarkOf (trailed price (entryAt w i)) ∷ [])) where
+            (ew : w' ≡ sets w (cell i 4)
+            (stopOf (trailed price (entryAt w i)) ∷ watermarkOf (trailed price (entryAt w i)) ∷ [])) where
           pub turn-written : (b : Book) (r : List ℕ) → Stored n w0 b r → Record n w' i
           turn-written b r st =
               let m = turn-next b r st in
               let c = chained-new n side price b r w0 st w p moved left (v .walked b r st) i m w' ew in
               record { least = m .at .least; most = m .at .most; inside = c .inside }
 
-          pub turn-on : (p' : ℕ) → p' ≡ cell i (linkOf (ByWatermark side)) → (y : ℕ) → y ≡ rankAt (ByWatermark side) w' i
+          pub turn-on : (p' : ℕ) → p' ≡ cell i (linkOf (ByWatermark side)) → (y : ℕ)
+              → y ≡ rankAt (ByWatermark side) w' i
               → (t : Bool) → t ≡ stillInOrder sorted x y → Trailing w' p' (moved + m) t y (left - 1)
           unfolding goes-on
           turn-on p' ep y ey t et = record {
             size = rw (ew, length-sets) (v .size);
             bound = omega (arith, v .bound, moves-most price (entryAt w i) m em);
             walked = λ b r st.
-                goes-on n side price b r w0 st w p moved left (v .walked b r st) i (turn-next b r st) w' ew p' (moved + m) ep (rw em);
+                goes-on n side price b r w0 st w p moved left (v .walked b r st) i (turn-next b r st) w' ew p'
+                (moved + m) ep (rw em);
             order = λ b r st h.
                 let so = still-so sorted x y (sym et ∙ h) in
                 let s = v .walked b r st in
-                order-next side price b (s .front) i (turn-next b r st .after) x y (rw (turn-next b r st .is) at (v .order b r st (so .0))) (so .1)
+                order-next side price b (s .front) i (turn-next b r st .after) x y
+                (rw (turn-next b r st .is) at (v .order b r st (so .0))) (so .1)
                 (ey ∙ rank-new n side price b r w0 st w p moved left s i (turn-next b r st) w' ew);
           }

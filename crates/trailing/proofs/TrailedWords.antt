@@ -30,7 +30,8 @@ use Rattle.trailing.specs.Trail.{moves}
 ------------------------------------------------------------------------
 -- By the terms of a record
 
-module _ (w : List ℕ) (i : ℕ) (price : Price) (t a : StopTerms) (et : t ≡ entryAt w i .terms) (ea : a ≡ trailedAt t price) where
+module _ (w : List ℕ) (i : ℕ) (price : Price) (t a : StopTerms) (et : t ≡ entryAt w i .terms)
+    (ea : a ≡ trailedAt t price) where
   after : a ≡ trailed price (entryAt w i) .terms
   unfolding trailed
   after = ea ∙ ap (λ (u : StopTerms). trailedAt u price) et
@@ -52,7 +53,8 @@ module _ (w : List ℕ) (i : ℕ) (price : Price) (t a : StopTerms) (et : t ≡ 
 -- By the stop that a record holds
 
 -- trailing changes the stop and the watermark alone
-same-words : (price : Price) (t : StopEntry) (k : ℕ) → k ≢ 4 → k ≢ 5 → dataWord (held t) k ≡ dataWord (held (trailed price t)) k
+same-words : (price : Price) (t : StopEntry) (k : ℕ) → k ≢ 4 → k ≢ 5
+    → dataWord (held t) k ≡ dataWord (held (trailed price t)) k
 unfolding dataWords withLinks trailed
 same-words price t zero a c = refl
 same-words price t (suc zero) a c = refl
@@ -71,9 +73,11 @@ module _ (n : ℕ) (w : List ℕ) (i : ℕ) (at : Record n w i) (x y : ℕ) wher
   as-cells = let e : suc (cell i 4) ≡ cell i 5 = omega (arith, cell-plus i 4, cell-plus i 5) in rw e
 
   elsewhere : (q : ℕ) → q ≢ cell i 4 → q ≢ cell i 5 → getD written q 0 ≡ getD w q 0
-  elsewhere q a c = rw as-cells (getD-set-other (set w (cell i 4) x) (cell i 5) q y 0 c ∙ getD-set-other w (cell i 4) q x 0 a)
+  elsewhere q a c = rw as-cells
+      (getD-set-other (set w (cell i 4) x) (cell i 5) q y 0 c ∙ getD-set-other w (cell i 4) q x 0 a)
 
-  word-other : (j k : ℕ) → 1 ≤ j → k < recordLength → (j ≡ i → k ≢ 4) → (j ≡ i → k ≢ 5) → recordWord written j k ≡ recordWord w j k
+  word-other : (j k : ℕ) → 1 ≤ j → k < recordLength → (j ≡ i → k ≢ 4) → (j ≡ i → k ≢ 5)
+      → recordWord written j k ≡ recordWord w j k
   unfolding recordWord
   word-other j k low d a c =
       let apart : (m : ℕ) → m < recordLength → (j ≡ i → k ≢ m) → cell j k ≢ cell i m = λ m l f e.
@@ -83,8 +87,10 @@ module _ (n : ℕ) (w : List ℕ) (i : ℕ) (at : Record n w i) (x y : ℕ) wher
   stop-word : recordWord written i 4 ≡ x
   unfolding recordWord
   stop-word =
-      rw as-cells (getD-set-other (set w (cell i 4) x) (cell i 5) (cell i 4) y 0 (λ e. omega (arith, cell-plus i 4, cell-plus i 5))
-      ∙ getD-set-same w (cell i 4) x 0 (omega (arith, cell-below n i 4 (at .least) (at .most) (omega arith), at .inside .room)))
+      rw as-cells (getD-set-other (set w (cell i 4) x) (cell i 5)
+      (cell i 4) y 0 (λ e. omega (arith, cell-plus i 4, cell-plus i 5))
+      ∙ getD-set-same w (cell i 4) x 0
+      (omega (arith, cell-below n i 4 (at .least) (at .most) (omega arith), at .inside .room)))
 
   watermark-word : recordWord written i 5 ≡ y
   unfolding recordWord
@@ -94,7 +100,8 @@ module _ (n : ℕ) (w : List ℕ) (i : ℕ) (at : Record n w i) (x y : ℕ) wher
 
   pub chained-written : {ch : StoreChain → List ℕ} → Chained n w ch → Chained n written ch
   chained-written c =
-      rw as-cells (chained-set-data n (set w (cell i 4) x) _ (chained-set-data n w _ c i 4 x (at .least) (omega arith)) i 5 y (at .least) (omega arith))
+      rw as-cells (chained-set-data n (set w (cell i 4) x) _
+      (chained-set-data n w _ c i 4 x (at .least) (omega arith)) i 5 y (at .least) (omega arith))
 
   module _ {count next tick : ℕ} {ss : List Slot} {r : List ℕ} (h : Contents n w count next tick ss r) where
     pub contents-trailed : (price : Price) (t : StopEntry) → getD ss (i - 1) vacant ≡ held t
@@ -106,14 +113,17 @@ module _ (n : ℕ) (w : List ℕ) (i : ℕ) (at : Record n w i) (x y : ℕ) wher
         (λ k l. elsewhere k (λ q. omega (arith, cell-least i 4)) (λ q. omega (arith, cell-least i 5)))
         own
         (λ j k low d ne. word-other j k low (d .inside) (λ q. absurd (ne q)) (λ q. absurd (ne q)))
-        (rw as-cells (drop-set-lt (storeLength n) (set w (cell i 4) x) (cell i 5) y (cell-below n i 5 (at .least) (at .most) (omega arith))
+        (rw as-cells (drop-set-lt (storeLength n) (set w (cell i 4) x)
+        (cell i 5) y (cell-below n i 5 (at .least) (at .most) (omega arith))
         ∙ drop-set-lt (storeLength n) w (cell i 4) x (cell-below n i 4 (at .least) (at .most) (omega arith))))
       where
         other : (k : ℕ) → IsData k → k ≢ 4 → k ≢ 5 → recordWord written i k ≡ dataWord (held (trailed price t)) k
         other k d a c =
-            word-other i k (at .least) (d .inside) (λ _. a) (λ _. c) ∙ (rw e at (h .words i k (at .least) (at .most) d)) ∙ same-words price t k a c
+            word-other i k (at .least) (d .inside) (λ _. a) (λ _. c)
+            ∙ (rw e at (h .words i k (at .least) (at .most) d)) ∙ same-words price t k a c
 
         own : (k : ℕ) → IsData k → recordWord written i k ≡ dataWord (held (trailed price t)) k
         own k d = cases (eqb k 4)
             (λ q. rw (eqb-true k 4 q) (stop-word ∙ ex))
-            (λ q. cases (eqb k 5) (λ p. rw (eqb-true k 5 p) (watermark-word ∙ ey)) (λ p. other k d (eqb-false k 4 q) (eqb-false k 5 p)))
+            (λ q. cases (eqb k 5) (λ p. rw (eqb-true k 5 p) (watermark-word ∙ ey))
+            (λ p. other k d (eqb-false k 4 q) (eqb-false k 5 p)))

@@ -1,4 +1,5 @@
--- What trailing does along the watermark chain of a side, before the chains are put in order: document 01, One point, one segment, one pass.
+-- What trailing does along the watermark chain of a side, before the chains are put in order: document 01, One point,
+-- one segment, one pass.
 use Prim.Native.Nat.{ℕ, _≤_, _<_}
 use mathlib.Core.Bool.{Bool, false, cond}
 use mathlib.Core.List.{List}

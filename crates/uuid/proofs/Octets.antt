@@ -54,9 +54,11 @@ number-variant : (x : ℕ) → x < 2 ^ 32
     → number ((0x2 * 64 + x / 2 ^ 24 % 256 % 64) ∷ x / 2 ^ 16 % 256 ∷ x / 2 ^ 8 % 256 ∷ x / 2 ^ 0 % 256 ∷ [])
     ≡ 2 ^ 31 + x % 2 ^ 30
 number-variant x h =
-    let first : (0x2 * 64 + x / 2 ^ 24 % 256 % 64) * 2 ^ 24 + x / 2 ^ 16 % 256 * 2 ^ 16 ≡ 2 ^ 31 + x / 2 ^ 16 % 2 ^ 14 * 2 ^ 16 = omega arith in
+    let first :
+    (0x2 * 64 + x / 2 ^ 24 % 256 % 64) * 2 ^ 24 + x / 2 ^ 16 % 256 * 2 ^ 16 ≡ 2 ^ 31 + x / 2 ^ 16 % 2 ^ 14 * 2 ^ 16 = omega arith in
     let second : x / 2 ^ 8 % 256 * 2 ^ 8 + x / 2 ^ 0 % 256 ≡ x % 2 ^ 16 = omega arith in
-    number-pairs _ _ _ _ ∙ ap₂ (λ (p q : ℕ). p + q) first second ∙ add-assoc _ _ _ ∙ ap (λ (n : ℕ). 2 ^ 31 + n) (sym (mod-pow-add x 14 16))
+    number-pairs _ _ _ _ ∙ ap₂ (λ (p q : ℕ). p + q) first second ∙ add-assoc _ _ _
+    ∙ ap (λ (n : ℕ). 2 ^ 31 + n) (sym (mod-pow-add x 14 16))
 
 -- the words of the octets that a hash value gives, from its words
 module _ (s : State) where
@@ -64,10 +66,12 @@ module _ (s : State) where
       → number (take 8 (stamped (octets s))) ≡ s .a * 2 ^ 32 + (s .b / 2 ^ 16 * 2 ^ 16 + (0x5000 + s .b % 2 ^ 12))
   unfolding stamped withVersion withVariant octets bigEndian
   stamped-high ha hb =
-      number-halves _ _ _ _ _ _ _ _ ∙ ap₂ (λ (p q : ℕ). p * 2 ^ 32 + q) (number-bigEndian 4 (s .a) ha) (number-version (s .b) hb)
+      number-halves _ _ _ _ _ _ _ _
+      ∙ ap₂ (λ (p q : ℕ). p * 2 ^ 32 + q) (number-bigEndian 4 (s .a) ha) (number-version (s .b) hb)
 
   pub stamped-low : s .c < 2 ^ 32 → s .d < 2 ^ 32
       → number (drop 8 (stamped (octets s))) ≡ (2 ^ 31 + s .c % 2 ^ 30) * 2 ^ 32 + s .d
   unfolding stamped withVersion withVariant octets bigEndian
   stamped-low hc hd =
-      number-halves _ _ _ _ _ _ _ _ ∙ ap₂ (λ (p q : ℕ). p * 2 ^ 32 + q) (number-variant (s .c) hc) (number-bigEndian 4 (s .d) hd)
+      number-halves _ _ _ _ _ _ _ _
+      ∙ ap₂ (λ (p q : ℕ). p * 2 ^ 32 + q) (number-variant (s .c) hc) (number-bigEndian 4 (s .d) hd)

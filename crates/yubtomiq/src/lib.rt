@@ -1,5 +1,6 @@
-// The calls of document 01 for hosts in C and Rust: every argument as words, under a plain name. A call returns 0 where it is accepted, else
-// the number of the refusal, and then alters nothing; before all else it asks that each kind, side, change and path flag is a known value (255).
+// The calls of document 01 for hosts in C and Rust: every argument as words, under a plain name. A call returns 0 where
+// it is accepted, else the number of the refusal, and then alters nothing; before all else it asks that each kind,
+// side, change and path flag is a known value (255).
 use book::ElectedWords;
 use book::MovedWords;
 ghost use mathlib.Core.List.{map};
@@ -54,8 +55,8 @@ pub extern "C" fn yubtomiq_admit_trailing_stop(
     host_admission::admit_trailing_stop(s, path, kill, trade, id, terms, quantity, answer)
 }
 
-// Changes the pending stop of an identity, and answers it after the change, or before it where a quantity of zero cancels. Refused: 255, 1,
-// 12, 13, 4, 6, 7, 11.
+// Changes the pending stop of an identity, and answers it after the change, or before it where a quantity of zero
+// cancels. Refused: 255, 1, 12, 13, 4, 6, 7, 11.
 #[no_mangle]
 pub extern "C" fn yubtomiq_update_pending_stop(
     s: &mut [u64],
@@ -134,7 +135,8 @@ pub extern "C" fn yubtomiq_record_print(
     host_path::record_print(path, pending, prev, price)
 }
 
-// Takes the path's segment, up to the last trade, closes the path, and answers the segment if there was one. Refused: 255.
+// Takes the path's segment, up to the last trade, closes the path, and answers the segment if there was one. Refused:
+// 255.
 #[no_mangle]
 pub extern "C" fn yubtomiq_take_path(
     path: &mut [u64; 4],
@@ -199,7 +201,8 @@ pub extern "C" fn yubtomiq_walk(
     host_evaluation::walk(s, settings, prev, prices, elected, answer)
 }
 
-// A pass, which lists the elected, and answers how many moves, elected and used script entries there were. Refused: 1, 14, 15.
+// A pass, which lists the elected, and answers how many moves, elected and used script entries there were. Refused: 1,
+// 14, 15.
 #[no_mangle]
 pub extern "C" fn yubtomiq_evaluate_pending_stops(
     s: &mut [u64],
@@ -217,8 +220,8 @@ pub extern "C" fn yubtomiq_evaluate_pending_stops(
     host_passes::evaluate_pending_stops(s, settings, script, prints, elected, answer)
 }
 
-// A run over path and store, up to the last trade: a pass over the path's segment, and the path reset; nothing where no stop is pending or the
-// path is closed. Refused: 255, 1, 14, 15.
+// A run over path and store, up to the last trade: a pass over the path's segment, and the path reset; nothing where no
+// stop is pending or the path is closed. Refused: 255, 1, 14, 15.
 #[no_mangle]
 pub extern "C" fn yubtomiq_run_stop_triggers(
     s: &mut [u64],
@@ -258,7 +261,8 @@ pub extern "C" fn yubtomiq_elected_by(terms: &[u64; 4], price: u64) -> u64
     host_terms::elected_by(terms, price)
 }
 
-// The inconsistency of the terms: 0 for none, a trail of zero (5), a stop on the wrong side of its watermark (6); or 255.
+// The inconsistency of the terms: 0 for none, a trail of zero (5), a stop on the wrong side of its watermark (6); or
+// 255.
 #[no_mangle]
 pub extern "C" fn yubtomiq_inconsistency(terms: &[u64; 4]) -> u64
     ensures { λ r. ⌜ r ≡ inconsistencyByWords (now (terms .entry)) ⌝ }

@@ -35,7 +35,8 @@ returns c =
     let d = o .over-ends .ensures in
     let e = w .walk .ensures in
     let all =
-    decided (g .settings) (g .prev) (map toPrice (g .prices .now)) (g .ends .now) (g .run .now) (g .elected .now) (g .moved .now) (g .listed .now)
+    decided (g .settings) (g .prev) (map toPrice (g .prices .now)) (g .ends .now) (g .run .now) (g .elected .now)
+    (g .moved .now) (g .listed .now)
     _ _ _ _ _ _ (d .0) (d .1 .0) (d .1 .1 .0) (e .0) (e .1 .0) (e .1 .1) in
     (all, (d .0, (d .1 .0, (d .1 .1 .0, (d .1 .1 .1, e)))))
 

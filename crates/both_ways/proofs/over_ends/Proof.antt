@@ -40,7 +40,8 @@ returns-2 c =
     let o = c .before .before .before .before in
     let e = o .before .before .before .before .before .before in
     let g = e .before .before .before .args in
-    with-prices (g .settings) (g .prev) (g .s .now) (g .elected .now) (g .moved .now) (g .prices .now) (e .if1 .left) _ _ _ _ (o .segment .ensures)
+    with-prices (g .settings) (g .prev) (g .s .now) (g .elected .now) (g .moved .now) (g .prices .now)
+    (e .if1 .left) _ _ _ _ (o .segment .ensures)
 
 pub over-ends-spec : {M : Type 1} → statement M
 over-ends-spec =

@@ -26,7 +26,8 @@ returns-2 c =
     let e1 = c .before .before in
     let b = e1 .before .before in
     let e = sides-pending (b .count-sides .ensures) in
-    and-passes _ _ _ (eq-eqb _ _ (e1 .if1 .left ∙ e)) (and-fails _ _ (sym (c .before .side-formed .ensures) ∙ not-true _ (c .if2 .taken)))
+    and-passes _ _ _ (eq-eqb _ _ (e1 .if1 .left ∙ e))
+    (and-fails _ _ (sym (c .before .side-formed .ensures) ∙ not-true _ (c .if2 .taken)))
 
 returns-3 : tie.Need-returns-3
 unfolding chainsFormed

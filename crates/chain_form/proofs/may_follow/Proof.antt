@@ -17,7 +17,12 @@ returns-3 : tie.Need-returns-3
 unfolding mayFollow
 returns-3 c =
     let b = c .before .before .before in
-    rw (b .before .before .k .given .1, ne-eqb _ _ (b .if1 .left), ← c .before .before .rank-of .ensures, ← c .before .rank-of2 .ensures) (c .is-before .ensures)
+    rw (
+      b .before .before .k .given .1,
+      ne-eqb _ _ (b .if1 .left),
+      ← c .before .before .rank-of .ensures,
+      ← c .before .rank-of2 .ensures,
+    ) (c .is-before .ensures)
 
 pub may-follow-spec : {M : Type 1} → statement M
 may-follow-spec =

@@ -13,14 +13,16 @@ returns : tie.Need-returns
 unfolding sideFormed
 returns c =
     let b = c .before in
-    and-fails _ _ (sym (chain-counted _ _ _ _ _ (b .before .before .pre .1) (b .walk-formed .ensures)) ∙ not-true _ (c .if1 .taken))
+    and-fails _ _ (sym (chain-counted _ _ _ _ _ (b .before .before .pre .1) (b .walk-formed .ensures))
+    ∙ not-true _ (c .if1 .taken))
 
 returns-2 : tie.Need-returns-2
 unfolding sideFormed
 returns-2 c =
     let b = c .before .before in
     let count = b .before .before .pre .1 in
-    and-passes _ _ _ (sym (chain-counted _ _ _ _ _ count (b .walk-formed .ensures)) ∙ not-false _ (c .before .if1 .left))
+    and-passes _ _ _ (sym (chain-counted _ _ _ _ _ count (b .walk-formed .ensures))
+    ∙ not-false _ (c .before .if1 .left))
     (chain-counted _ _ _ _ _ count (c .walk-formed2 .ensures))
 
 pub side-formed-spec : {M : Type 1} → statement M

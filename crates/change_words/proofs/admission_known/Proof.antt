@@ -13,7 +13,11 @@ returns-2 c =
     let t = c .before in
     let i = t .before in
     let a = i .before in
-    rw (sym (a .id-known .ensures) ∙ not-false _ (i .if1 .left), sym (t .terms-known .ensures) ∙ not-true _ (c .if2 .taken))
+    rw (
+      sym (a .id-known .ensures) ∙ not-false _ (i .if1 .left),
+      sym (t .terms-known .ensures)
+          ∙ not-true _ (c .if2 .taken),
+    )
 
 returns-3 : tie.Need-returns-3
 returns-3 c =

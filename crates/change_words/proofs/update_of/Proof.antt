@@ -21,7 +21,10 @@ returns-4 : tie.Need-returns-4
 unfolding updateOf
 returns-4 c =
     let m = c .before .before in
-    rw (updateFrom-beyond _ _ _ _ (m .match .rest .0 .0 .1) (m .match .rest .0 .1) (m .match .rest .1), c .side-from .ensures)
+    rw (
+      updateFrom-beyond _ _ _ _ (m .match .rest .0 .0 .1) (m .match .rest .0 .1) (m .match .rest .1),
+      c .side-from .ensures,
+    )
 
 pub update-of-spec : {M : Type 1} → statement M
 update-of-spec =

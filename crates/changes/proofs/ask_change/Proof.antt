@@ -20,7 +20,8 @@ returns c b e =
     let quantity = terms .before in
     rw (e, ← terms .changed-terms .ensures) (
     let q13 = asked-next 13 (a1 .ask .ensures) refl (a1 .before .differs-in-price .ensures) in
-    let q4 = asked-next 4 (a2 .ask2 .ensures) q13 (ap (λ (q : Quantity). leb 1 (q .0)) (quantity .changed-quantity .ensures)) in
+    let q4 = asked-next 4 (a2 .ask2 .ensures) q13
+    (ap (λ (q : Quantity). leb 1 (q .0)) (quantity .changed-quantity .ensures)) in
     let q6 = asked-next 6 (a3 .ask3 .ensures) q4 (a3 .before .within-watermark .ensures) in
     let q7 = asked-next 7 (a4 .ask4 .ensures) q6 (a4 .before .not-triggered .ensures) in
     asked-next 11 (c .ask5 .ensures) q7 (c .before .sequence-left .ensures) ∙ askedAll-firstNo _

@@ -38,7 +38,8 @@ same-length-2 c = search needs
 
 returns-2 : tie.Need-returns-2
 unfolding toldStop
-returns-2 c = outcome-parts _ _ (update-unformed _ _ _ _ (sym (c .before .well-formed .ensures) ∙ not-true _ (c .if2 .taken)))
+returns-2 c = outcome-parts _ _
+    (update-unformed _ _ _ _ (sym (c .before .well-formed .ensures) ∙ not-true _ (c .if2 .taken)))
 
 slice-read-n : tie.Need-slice-read-n
 slice-read-n c =
@@ -57,13 +58,15 @@ returns-3 : tie.Need-returns-3
 unfolding toldStop
 returns-3 c =
     let b = c .before .before .before .before in
-    outcome-parts _ _ (update-missing _ _ _ _ (sym (b .before .well-formed .ensures) ∙ not-false _ (b .if2 .left)) (missing _ _ _ (c .before .find-id .ensures) (c .if3 .taken)))
+    outcome-parts _ _ (update-missing _ _ _ _ (sym (b .before .well-formed .ensures) ∙ not-false _ (b .if2 .left))
+    (missing _ _ _ (c .before .find-id .ensures) (c .if3 .taken)))
 
 entry-at-requires : tie.Need-entry-at-requires
 entry-at-requires c κs =
     let d = c .before in
     let b = d .before .before .before .before in
-    found-record _ (sym (b .before .well-formed .ensures) ∙ not-false _ (b .if2 .left)) _ _ (found _ _ _ (d .before .find-id .ensures) (d .if3 .left))
+    found-record _ (sym (b .before .well-formed .ensures) ∙ not-false _ (b .if2 .left)) _ _
+    (found _ _ _ (d .before .find-id .ensures) (d .if3 .left))
 
 slice-read-next : tie.Need-slice-read-next
 slice-read-next c =
@@ -135,7 +138,8 @@ returns-4 c =
     let e = sym (b .before .well-formed .ensures) ∙ not-false _ (b .if2 .left) in
     let f = found _ _ _ (d .before .find-id .ensures) (d .if3 .left) in
     let others = sym (b .before .before .before .before .cancels .ensures) ∙ b .before .before .before .if1 .left in
-    outcome-parts _ _ (update-refused _ _ _ w e _ f others _ (t .entry-at .ensures) _ (one-no _ _ _ (c .before .verdict .given .1) (a .ask-change .ensures (bookOf w) (next-word w))))
+    outcome-parts _ _ (update-refused _ _ _ w e _ f others _ (t .entry-at .ensures) _
+    (one-no _ _ _ (c .before .verdict .given .1) (a .ask-change .ensures (bookOf w) (next-word w))))
 
 same-length-5 : tie.Need-same-length-5
 same-length-5 c = search needs

@@ -32,7 +32,8 @@ loop-again : tie.Need-loop-again Inv-loop μ-loop
 loop-again c =
     let i = c .before .before .before in
     let (b, r, st) = i .before .before .before .pre .0 in
-    doing-next _ _ _ _ _ _ _ (i .before .loop .inv) (i .loop-test .taken) (rw (← stored-book st) at (c .before .complete-entry .ensures b r st))
+    doing-next _ _ _ _ _ _ _ (i .before .loop .inv) (i .loop-test .taken)
+    (rw (← stored-book st) at (c .before .complete-entry .ensures b r st))
 
 same-length : tie.Need-same-length Inv-loop μ-loop
 same-length c = c .before .loop .inv .size

@@ -92,7 +92,8 @@ returns c =
     let a = k .before .before .before .args in
     λ b r st.
     ap (set (a .list .now) (a .at))
-    (completed-words _ b _ _ _ _ _ _ _ _ (k .kind-of .ensures) (d .side-from .ensures) (l .limit .ensures) (i .stop-trigger-order-id .ensures)
+    (completed-words _ b _ _ _ _ _ _ _ _ (k .kind-of .ensures) (d .side-from .ensures) (l .limit .ensures)
+    (i .stop-trigger-order-id .ensures)
     (c .before .limit-present .ensures) (c .limit-word .ensures) (p .pending-word .ensures b r st))
 
 pub complete-entry-spec : {M : Type 1} → statement M

@@ -17,7 +17,8 @@ abbrev μ-loop : tie.MeasureT-loop
 loop-holds : tie.Need-loop-holds Inv-loop μ-loop
 loop-holds c =
     let (ch, h) = c .before .before .before .pre in
-    passing-first _ _ _ _ _ (Ordered (c .before .before .before .args .c)) (c .before .link-of .ensures) (c .head-of .ensures) ch h
+    passing-first _ _ _ _ _ (Ordered (c .before .before .before .args .c)) (c .before .link-of .ensures)
+    (c .head-of .ensures) ch h
 
 mul-i : tie.Need-mul-i Inv-loop μ-loop
 mul-i c = let q = passing-places (c .loop .inv) in omega (arith, q .low, q .few)
@@ -29,7 +30,8 @@ same-length : tie.Need-same-length Inv-loop μ-loop
 same-length c = c .before .before .loop .inv .kept .size
 
 returns : tie.Need-returns Inv-loop μ-loop
-returns c = let l = c .before .before in (l .loop .inv .kept, passing-end (l .loop .inv) (c .if1 .taken) _ (l .before .head-of .ensures))
+returns c = let l = c .before .before in
+    (l .loop .inv .kept, passing-end (l .loop .inv) (c .if1 .taken) _ (l .before .head-of .ensures))
 
 cell-requires : tie.Need-cell-requires Inv-loop μ-loop
 cell-requires c κs =
@@ -60,14 +62,18 @@ slice-read-next c =
     rw (x .cell .ensures .0) (omega (arith, cell-below _ _ _ (r .least) (r .most) (q .link-low), q .room))
 
 mul-s : tie.Need-mul-s Inv-loop μ-loop
-mul-s c = let q = passing-places (c .before .before .before .before .before .before .before .before .loop .inv) in omega (arith, q .low, q .few)
+mul-s c = let q = passing-places (c .before .before .before .before .before .before .before .before .loop .inv) in
+    omega (arith, q .low, q .few)
 
 slice-write-s : tie.Need-slice-write-s Inv-loop μ-loop
 slice-write-s c =
-    let q = passing-places (c .before .before .before .before .before .before .before .before .loop .inv) in omega (arith, q .low, q .room)
+    let q = passing-places (c .before .before .before .before .before .before .before .before .loop .inv) in
+    omega (arith, q .low, q .room)
 
 loop-less : tie.Need-loop-less Inv-loop μ-loop
-loop-less c = let e = c .before .before .before .before .before .before in omega (arith, passing-left (e .before .before .loop .inv) (e .if1 .left))
+loop-less c = let e =
+    c .before .before .before .before .before .before in
+    omega (arith, passing-left (e .before .before .loop .inv) (e .if1 .left))
 
 loop-again : tie.Need-loop-again Inv-loop μ-loop
 loop-again c =
@@ -77,7 +83,9 @@ loop-again c =
     (rw (y .before .terms-at .ensures) at (sym (y .elected-by .ensures) ∙ c .before .if2 .taken))
 
 loop-less-2 : tie.Need-loop-less-2 Inv-loop μ-loop
-loop-less-2 c = let e = c .before .before .before .before .before in omega (arith, passing-left (e .before .before .loop .inv) (e .if1 .left))
+loop-less-2 c = let e =
+    c .before .before .before .before .before in
+    omega (arith, passing-left (e .before .before .loop .inv) (e .if1 .left))
 
 loop-again-2 : tie.Need-loop-again-2 Inv-loop μ-loop
 loop-again-2 c =

@@ -18,7 +18,12 @@ mul-i c = omega (arith, c .head-of .ensures, name-stands (Ordered (ByStop (c .be
 shared-slice-read-i : tie.Need-shared-slice-read-i
 shared-slice-read-i c =
     let (ch, h) = c .before .before .before .pre in
-    omega (arith, c .before .head-of .ensures, name-stands (Ordered (ByStop (c .before .before .before .args .side))) .high, h .inside .room)
+    omega (
+      arith,
+      c .before .head-of .ensures,
+      name-stands (Ordered (ByStop (c .before .before .before .args .side))) .high,
+      h .inside .room,
+    )
 
 returns : tie.Need-returns
 returns c = firstElected-end _ _ _ _ (c .before .before .head-of .ensures) (c .if1 .taken)
@@ -26,7 +31,8 @@ returns c = firstElected-end _ _ _ _ (c .before .before .head-of .ensures) (c .i
 terms-at-requires : tie.Need-terms-at-requires
 terms-at-requires c κs =
     let (ch, h) = c .before .before .before .before .pre in
-    head-record _ _ ch h (Ordered (ByStop (c .before .before .before .before .args .side))) _ (c .before .before .head-of .ensures) (c .if1 .left)
+    head-record _ _ ch h (Ordered (ByStop (c .before .before .before .before .args .side))) _
+    (c .before .before .head-of .ensures) (c .if1 .left)
 
 elected-by-requires : tie.Need-elected-by-requires
 elected-by-requires c κs = search needs

@@ -35,7 +35,8 @@ write-free-requires c κs =
     let t = c .before .before .before in
     let e = t .before .before in
     let f = e .before in
-    turns-record (f .before .before .loop .inv) (f .first-elected .ensures) (e .if1 .left) (t .take-out .ensures .0) (t .take-out .ensures .1)
+    turns-record (f .before .before .loop .inv) (f .first-elected .ensures) (e .if1 .left) (t .take-out .ensures .0)
+    (t .take-out .ensures .1)
 
 push-requires : tie.Need-push-requires Inv-loop μ-loop
 push-requires c κs =
@@ -43,7 +44,8 @@ push-requires c κs =
     let t = w .before .before .before .before in
     let e = t .before .before in
     let f = e .before in
-    turns-ready (f .before .before .loop .inv) (f .first-elected .ensures) (e .if1 .left) (t .take-out .ensures .0) (t .take-out .ensures .1)
+    turns-ready (f .before .before .loop .inv) (f .first-elected .ensures) (e .if1 .left) (t .take-out .ensures .0)
+    (t .take-out .ensures .1)
     (w .write-free .ensures)
 
 add-m : tie.Need-add-m Inv-loop μ-loop
@@ -67,7 +69,8 @@ loop-again c =
     let t = w .before .before .before .before in
     let e = t .before .before in
     let f = e .before in
-    turns-again (f .before .before .loop .inv) (f .first-elected .ensures) (e .if1 .left) (t .take-out .ensures .0) (t .take-out .ensures .1)
+    turns-again (f .before .before .loop .inv) (f .first-elected .ensures) (e .if1 .left) (t .take-out .ensures .0)
+    (t .take-out .ensures .1)
     (w .write-free .ensures) (p .push .ensures .0) (p .push .ensures .1)
 
 pub free-elected-spec : {M : Type 1} → statement M

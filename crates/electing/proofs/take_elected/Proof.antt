@@ -20,7 +20,8 @@ returns : tie.Need-returns
 returns c = λ b r st. election-none _ _ st (sym (c .before .first-elected .ensures) ∙ c .if1 .taken)
 
 drop-elected-requires : tie.Need-drop-elected-requires
-drop-elected-requires c κs = let (b, r, st) = c .before .before .before .before .before .pre in (chainsOf b, stored-holds st .chained)
+drop-elected-requires c κs = let (b, r, st) =
+    c .before .before .before .before .before .pre in (chainsOf b, stored-holds st .chained)
 
 free-elected-requires : tie.Need-free-elected-requires
 free-elected-requires c κs =
@@ -33,7 +34,11 @@ slice-read-count c =
     let f = c .before .before .before in
     let d = f .before .before .before .before in
     let (b, r, st) = d .before .before .before .before .before .before .pre in
-    omega (arith, election-room _ _ st (d .drop-elected .ensures .0) (d .drop-elected .ensures .1) (f .free-elected .ensures))
+    omega (
+      arith,
+      election-room _ _ st (d .drop-elected .ensures .0) (d .drop-elected .ensures .1)
+          (f .free-elected .ensures),
+    )
 
 sub-s : tie.Need-sub-s
 sub-s c =
@@ -47,7 +52,11 @@ slice-write-s c =
     let f = c .before .before .before in
     let d = f .before .before .before .before in
     let (b, r, st) = d .before .before .before .before .before .before .pre in
-    omega (arith, election-room _ _ st (d .drop-elected .ensures .0) (d .drop-elected .ensures .1) (f .free-elected .ensures))
+    omega (
+      arith,
+      election-room _ _ st (d .drop-elected .ensures .0) (d .drop-elected .ensures .1)
+          (f .free-elected .ensures),
+    )
 
 same-length-2 : tie.Need-same-length-2
 same-length-2 c =
@@ -58,7 +67,8 @@ returns-2 : tie.Need-returns-2
 returns-2 c =
     let f = c .before .before .before in
     let d = f .before .before .before .before in
-    λ b r st. election-stored _ _ st (d .drop-elected .ensures .0) (d .drop-elected .ensures .1) (f .free-elected .ensures)
+    λ b r st. election-stored _ _ st (d .drop-elected .ensures .0) (d .drop-elected .ensures .1)
+    (f .free-elected .ensures)
 
 pub take-elected-spec : {M : Type 1} → statement M
 take-elected-spec =

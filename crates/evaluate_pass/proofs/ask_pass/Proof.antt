@@ -27,7 +27,8 @@ returns-2 c =
     let f = a .before .before in
     let formed = sym (f .before .well-formed .ensures) ∙ not-false _ (f .if1 .left) in
     let q14 = asked-next 14 (a .ask .ensures) refl refl in
-    rw (← count-word _ formed) (asked-next 15 (c .ask2 .ensures) q14 (c .before .script-formed .ensures) ∙ asked-first 1 _ _ formed)
+    rw (← count-word _ formed)
+    (asked-next 15 (c .ask2 .ensures) q14 (c .before .script-formed .ensures) ∙ asked-first 1 _ _ formed)
 
 pub ask-pass-spec : {M : Type 1} → statement M
 ask-pass-spec =

@@ -16,8 +16,10 @@ slice-read-n c =
 pass-requires : tie.Need-pass-requires
 pass-requires c κs =
     let b = c .before .before .before .before .before in
-    let w = b .args .s .now in
-    (pass-script _ _ _ (b .pre), (bookOf w, beyond w, wellFormed-stored w (pass-formed _ _ _ (b .pre)), pass-elected _ _ _ (b .pre)))
+    let w = b .args .s .now in (
+      pass-script _ _ _ (b .pre),
+      (bookOf w, beyond w, wellFormed-stored w (pass-formed _ _ _ (b .pre)), pass-elected _ _ _ (b .pre)),
+    )
 
 same-length : tie.Need-same-length
 same-length c = search needs
@@ -32,7 +34,8 @@ returns c =
     let g = b .args in
     let w = g .s .now in
     let d = o .pass .ensures (bookOf w) (beyond w) (wellFormed-stored w (pass-formed _ _ _ (b .pre))) in
-    passed-done (g .settings) (g .script .now) (g .prints) w (g .elected .now) (b .pre) _ _ _ (d .0) (d .1) (d .2) (d .3) (d .4)
+    passed-done (g .settings) (g .script .now) (g .prints) w (g .elected .now) (b .pre) _ _ _ (d .0) (d .1) (d .2)
+    (d .3) (d .4)
 
 pub pass-over-spec : {M : Type 1} → statement M
 pass-over-spec = tie.close (tie.spec slice-read-n pass-requires same-length same-length-2 returns)

@@ -32,7 +32,8 @@ returns-2 c =
     let f = a .before .before in
     let formed = sym (f .before .well-formed .ensures) ∙ not-false _ (f .if1 .left) in
     rw (← count-word _ formed)
-    (asked-next 14 (c .ask2 .ensures) (asked-next 14 (a .ask .ensures) refl refl) refl ∙ asked-both _ 14 _ _ ∙ asked-first 1 _ _ formed)
+    (asked-next 14 (c .ask2 .ensures) (asked-next 14 (a .ask .ensures) refl refl) refl ∙ asked-both _ 14 _ _
+    ∙ asked-first 1 _ _ formed)
 
 pub ask-segment-spec : {M : Type 1} → statement M
 ask-segment-spec =

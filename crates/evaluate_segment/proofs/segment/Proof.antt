@@ -83,8 +83,11 @@ returns-2 c =
     let w = g .s .now in
     let h = all-yes _ _ (e .enum-told .given .1) (a .ask-segment .ensures) in
     let d = o .segment-listed .ensures (bookOf w) (beyond w) (wellFormed-stored w (segment-formed w _ _ h)) in
-    segment-done (g .settings) (g .prints) w (g .elected .now) (g .moved .now) h _ (d .2) _ _ _ _ (d .0) (d .1) (d .3) (d .4)
-    (c .before .complete .ensures (segment (g .settings .kill) (g .prints) (bookOf w) .book) (beyond w) (g .elected .now) (segment (g .settings .kill) (g .prints) (bookOf w) .fills) (d .4) (d .2) (from-start _ _ (d .1)))
+    segment-done (g .settings) (g .prints) w (g .elected .now) (g .moved .now) h _ (d .2) _ _ _ _ (d .0) (d .1) (d .3)
+    (d .4)
+    (c .before .complete .ensures (segment (g .settings .kill) (g .prints) (bookOf w) .book) (beyond w)
+    (g .elected .now) (segment (g .settings .kill) (g .prints) (bookOf w) .fills) (d .4) (d .2)
+    (from-start _ _ (d .1)))
 
 pub segment-spec : {M : Type 1} → statement M
 segment-spec =

@@ -30,7 +30,8 @@ returns-2 c =
     let formed = sym (f .before .well-formed .ensures) ∙ not-false _ (f .if1 .left) in
     let q14 = asked-next 14 (a .ask .ensures) refl refl in
     rw (← count-word _ formed, length-map)
-    (asked-next 16 (c .ask3 .ensures) (asked-next 16 (a2 .ask2 .ensures) q14 refl) refl ∙ asked-both _ 16 _ _ ∙ asked-first 1 _ _ formed)
+    (asked-next 16 (c .ask3 .ensures) (asked-next 16 (a2 .ask2 .ensures) q14 refl) refl ∙ asked-both _ 16 _ _
+    ∙ asked-first 1 _ _ formed)
 
 pub ask-walk-spec : {M : Type 1} → statement M
 ask-walk-spec =

@@ -90,7 +90,8 @@ returns-2 c =
     let h = all-yes _ _ (e .enum-told .given .1) (a .ask-walk .ensures) in
     let d = o .walk-points .ensures (bookOf w) (beyond w) (wellFormed-stored w (walk-formed ps w _ h)) in
     walk-done (g .settings) (g .prev) ps w (g .elected .now) h _ (d .2) _ _ _ (d .0) (d .1) (d .3)
-    (c .before .complete .ensures (walk (g .settings .kill) (g .prev) ps (bookOf w) .book) (beyond w) (g .elected .now) (walk (g .settings .kill) (g .prev) ps (bookOf w) .fills) (d .3) (d .2) (from-start _ _ (d .1)))
+    (c .before .complete .ensures (walk (g .settings .kill) (g .prev) ps (bookOf w) .book) (beyond w) (g .elected .now)
+    (walk (g .settings .kill) (g .prev) ps (bookOf w) .fills) (d .3) (d .2) (from-start _ _ (d .1)))
 
 pub walk-spec : {M : Type 1} → statement M
 walk-spec =

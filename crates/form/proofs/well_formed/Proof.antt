@@ -1,4 +1,5 @@
--- `form::well_formed` meets its contract: each return is a test that fails, or the last, and the tests are exact on a slice's words.
+-- `form::well_formed` meets its contract: each return is a test that fails, or the last, and the tests are exact on a
+-- slice's words.
 use native.Mathlib.Omega.{arith}
 use mathlib.Core.Path.{sym, _∙_}
 use borrow.Author.Tests.{not-true, not-false, le-leb, lt-leb}
@@ -11,13 +12,15 @@ use Rattle.form.proofs.well_formed.Tie as tie
 
 returns : tie.Need-returns
 unfolding formed
-returns c = and-fails _ _ (lt-leb _ _ (c .if1 .taken)) ∙ exact _ (λ p. omega (arith, c .before .shared-slice-known .given p))
+returns c = and-fails _ _ (lt-leb _ _ (c .if1 .taken))
+    ∙ exact _ (λ p. omega (arith, c .before .shared-slice-known .given p))
 
 returns-2 : tie.Need-returns-2
 unfolding formed
 returns-2 c =
     let e1 = c .before .before in
-    and-passes _ _ _ (le-leb _ _ (e1 .if1 .left)) (and-fails _ _ (lt-leb _ _ (c .if2 .taken))) ∙ exact _ (λ p. omega (arith, e1 .before .shared-slice-known .given p))
+    and-passes _ _ _ (le-leb _ _ (e1 .if1 .left)) (and-fails _ _ (lt-leb _ _ (c .if2 .taken)))
+    ∙ exact _ (λ p. omega (arith, e1 .before .shared-slice-known .given p))
 
 returns-3 : tie.Need-returns-3
 unfolding formed
@@ -83,7 +86,8 @@ returns-7 c =
     (and-passes _ _ _ (le-leb _ _ (e3 .if3 .left))
     (and-passes _ _ _ (le-leb _ _ (e4 .if4 .left))
     (and-passes _ _ _ (sym (e5 .before .records-formed .ensures) ∙ not-false _ (e5 .if5 .left))
-    (and-passes _ _ _ (sym (e6 .before .chains-formed .ensures) ∙ not-false _ (e6 .if6 .left)) (c .all-differ .ensures))))))
+    (and-passes _ _ _ (sym (e6 .before .chains-formed .ensures) ∙ not-false _ (e6 .if6 .left))
+    (c .all-differ .ensures))))))
     ∙ exact _ (λ p. omega (arith, e1 .before .shared-slice-known .given p))
 
 pub well-formed-spec : {M : Type 1} → statement M

@@ -13,7 +13,8 @@ returns c =
     let a = c .before in
     let m = a .before .before in
     let t = m .before .before in
-    rw (sym (t .try-new .ensures) ∙ ap toldNew (m .made .given .1)) (c .of-check .ensures ∙ ap number (a .check-tick-size .ensures))
+    rw (sym (t .try-new .ensures) ∙ ap toldNew (m .made .given .1))
+    (c .of-check .ensures ∙ ap number (a .check-tick-size .ensures))
 
 returns-2 : tie.Need-returns-2
 unfolding checkOf toldNew number

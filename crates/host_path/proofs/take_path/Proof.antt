@@ -21,8 +21,11 @@ returns-2 c =
     let i = a .before .before in
     let b = i .before in
     let known = sym (b .path-known .ensures) ∙ not-false _ (i .if1 .left) in
-    rw (known, ← a .path-of .ensures, ← l .last-price-of .ensures)
-    ((refl, c .segment-words .ensures ∙ ap segmentWords (t .taken .ensures .0)), p .path-words .ensures ∙ ap pathWords (t .taken .ensures .1))
+    rw (known, ← a .path-of .ensures, ← l .last-price-of .ensures) (
+      (refl, c .segment-words .ensures ∙ ap segmentWords (t .taken .ensures .0)),
+      p .path-words .ensures
+          ∙ ap pathWords (t .taken .ensures .1),
+    )
 
 pub take-path-spec : {M : Type 1} → statement M
 take-path-spec =

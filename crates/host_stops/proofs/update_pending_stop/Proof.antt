@@ -22,7 +22,8 @@ returns-2 c =
     let d = b .before in
     let known = sym (d .change-known .ensures) ∙ not-false _ (b .if1 .left) in
     let told = rw (u .update-pending-stop .ensures .0) at (c .of-stop .ensures) in
-    rw (known, ← i .id-of .ensures, ← a .update-of .ensures, ← l .last-price-of .ensures) (told, u .update-pending-stop .ensures .1)
+    rw (known, ← i .id-of .ensures, ← a .update-of .ensures, ← l .last-price-of .ensures)
+    (told, u .update-pending-stop .ensures .1)
 
 pub update-pending-stop-spec : {M : Type 1} → statement M
 update-pending-stop-spec =

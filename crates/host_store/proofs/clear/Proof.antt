@@ -21,7 +21,8 @@ returns-2 c =
     let d = i .before in
     let known = sym (d .path-known .ensures) ∙ not-false _ (i .if1 .left) in
     let path = p .path-words .ensures ∙ ap pathWords (a .clear .ensures .1 .0) in
-    rw (known, ← b .path-of .ensures) (c .of-layout .ensures ∙ ap number (a .clear .ensures .0), a .clear .ensures .1 .1, path)
+    rw (known, ← b .path-of .ensures)
+    (c .of-layout .ensures ∙ ap number (a .clear .ensures .0), a .clear .ensures .1 .1, path)
 
 pub clear-spec : {M : Type 1} → statement M
 clear-spec =

@@ -13,7 +13,8 @@ returns c = and-fails _ _ (sym (c .before .keys-differ .ensures) ∙ not-true _ 
 returns-2 : tie.Need-returns-2
 returns-2 c =
     let b = c .before in
-    and-passes _ _ _ (sym (b .before .keys-differ .ensures) ∙ not-false _ (b .if1 .left)) (c .keys-differ2 .ensures) ∙ allDiffer-keys _ _
+    and-passes _ _ _ (sym (b .before .keys-differ .ensures) ∙ not-false _ (b .if1 .left)) (c .keys-differ2 .ensures)
+    ∙ allDiffer-keys _ _
 
 pub all-differ-spec : {M : Type 1} → statement M
 all-differ-spec = tie.close (tie.spec (λ c κs. search needs) returns (λ c κs. search needs) returns-2)

@@ -12,8 +12,15 @@ returns c = (rw (c .before .enum-told .given .1, c .word .ensures), omega arith)
 returns-2 : tie.Need-returns-2
 unfolding bucketAt
 returns-2 c =
-    let b = c .before in
-    (rw (b .before .before .enum-told2 .given .1, c .wrapping-add-u64 .ensures, b .before .word2 .ensures, b .word3 .ensures), omega arith)
+    let b = c .before in (
+      rw (
+        b .before .before .enum-told2 .given .1,
+        c .wrapping-add-u64 .ensures,
+        b .before .word2 .ensures,
+        b .word3 .ensures,
+      ),
+      omega arith,
+    )
 
 pub bucket-of-spec : {M : Type 1} → statement M
 bucket-of-spec =

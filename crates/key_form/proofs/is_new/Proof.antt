@@ -1,5 +1,5 @@
--- `key_form::is_new` meets its contract. The loop's invariant: what is left of the test, at a stop of the bucket, is the whole test. Each
--- step goes to an earlier record.
+-- `key_form::is_new` meets its contract. The loop's invariant: what is left of the test, at a stop of the bucket, is
+-- the whole test. Each step goes to an earlier record.
 use native.Mathlib.Omega.{arith}
 use mathlib.Core.Path.{sym, _∙_}
 use borrow.Author.Needs.{needs}
@@ -20,19 +20,22 @@ loop-holds c = rw (c .before .pre .1 .0) (walking-start _ _ _ (c .before .pre .0
 returns : tie.Need-returns Inv-loop μ-loop
 returns c =
     let b = c .before .before in
-    walking-found _ _ _ (b .before .before .before .pre .0 .1) _ (b .before .loop .inv) (b .loop-test .taken) (sym (c .before .same-key .ensures) ∙ c .if1 .taken)
+    walking-found _ _ _ (b .before .before .before .pre .0 .1) _ (b .before .loop .inv) (b .loop-test .taken)
+    (sym (c .before .same-key .ensures) ∙ c .if1 .taken)
 
 loop-less : tie.Need-loop-less Inv-loop μ-loop
 loop-less c =
     let b = c .before .before .before in
     let start = b .before .before .before in
-    walking-less _ _ _ (start .pre .0 .1) _ (b .before .loop .inv) (b .loop-test .taken) (now (start .args .nexts)) (start .pre .1 .1)
+    walking-less _ _ _ (start .pre .0 .1) _ (b .before .loop .inv) (b .loop-test .taken) (now (start .args .nexts))
+    (start .pre .1 .1)
 
 loop-again : tie.Need-loop-again Inv-loop μ-loop
 loop-again c =
     let b = c .before .before .before in
     let start = b .before .before .before in
-    walking-next _ _ _ (start .pre .0 .1) _ (b .before .loop .inv) (b .loop-test .taken) (now (start .args .nexts)) (start .pre .1 .1)
+    walking-next _ _ _ (start .pre .0 .1) _ (b .before .loop .inv) (b .loop-test .taken) (now (start .args .nexts))
+    (start .pre .1 .1)
     (sym (c .before .before .same-key .ensures) ∙ c .before .if1 .left)
 
 returns-2 : tie.Need-returns-2 Inv-loop μ-loop

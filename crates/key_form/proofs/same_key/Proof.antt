@@ -1,4 +1,5 @@
--- `key_form::same_key` meets its contract: the key is known in each part, and each return of the identities is a test that fails, or the last.
+-- `key_form::same_key` meets its contract: the key is known in each part, and each return of the identities is a test
+-- that fails, or the last.
 use mathlib.Core.Path.{sym, _∙_}
 use borrow.Author.Needs.{needs}
 use Rattle.book.specs.Words.{entryAt}
@@ -15,13 +16,15 @@ returns-2 : tie.Need-returns-2
 unfolding sameKey entryAt
 returns-2 c =
     rw (c .before .before .before .enum-told .given .1)
-    (sym (sameId-low _ _ (λ e. c .if1 .taken (c .before .before .word3 .ensures ∙ e ∙ sym (c .before .word4 .ensures)))))
+    (sym (sameId-low _ _ (λ e. c .if1 .taken
+    (c .before .before .word3 .ensures ∙ e ∙ sym (c .before .word4 .ensures)))))
 
 returns-3 : tie.Need-returns-3
 unfolding sameKey entryAt
 returns-3 c =
     rw (c .before .before .before .before .before .before .enum-told .given .1)
-    (sym (sameId-high _ _ (λ e. c .if2 .taken (c .before .before .word5 .ensures ∙ e ∙ sym (c .before .word6 .ensures)))))
+    (sym (sameId-high _ _
+    (λ e. c .if2 .taken (c .before .before .word5 .ensures ∙ e ∙ sym (c .before .word6 .ensures)))))
 
 returns-4 : tie.Need-returns-4
 unfolding sameKey entryAt
@@ -29,7 +32,13 @@ returns-4 c =
     let k = c .before .before in
     let e2 = k .before .before in
     let e1 = e2 .before .before .before in
-    rw (e1 .before .before .before .enum-told .given .1, k .kind-number .ensures, c .kind-number2 .ensures, k .before .word7 .ensures, c .before .word8 .ensures)
+    rw (
+      e1 .before .before .before .enum-told .given .1,
+      k .kind-number .ensures,
+      c .kind-number2 .ensures,
+      k .before .word7 .ensures,
+      c .before .word8 .ensures,
+    )
     (sym (sameId-kind _ _ (sym (e1 .before .before .word3 .ensures) ∙ e1 .if1 .left ∙ e1 .before .word4 .ensures)
     (sym (e2 .before .before .word5 .ensures) ∙ e2 .if2 .left ∙ e2 .before .word6 .ensures)))
 

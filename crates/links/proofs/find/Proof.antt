@@ -43,7 +43,8 @@ loop-again c =
     let m = at-next _ _ _ _ _ (still _) (c .before .before .before .loop .inv) (λ h. absurd (has-none _ h)) in
     let h = c .before .before .before .before .before .pre .1 in
     rw (c .cell .ensures .0)
-    (at-past _ _ _ _ _ (still _) (h .inside) (h .link) m (has-rest _ _ _ (c .before .if1 .left) (m .keeps)) (spot-on _ _ _ _ _ (c .before .if1 .left)))
+    (at-past _ _ _ _ _ (still _) (h .inside) (h .link) m (has-rest _ _ _ (c .before .if1 .left) (m .keeps))
+    (spot-on _ _ _ _ _ (c .before .if1 .left)))
 
 pub find-spec : {M : Type 1} → statement M
 find-spec =

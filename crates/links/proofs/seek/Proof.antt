@@ -33,7 +33,8 @@ returns-2 : tie.Need-returns-2 Inv-loop μ-loop
 returns-2 c =
     let b = c .before .before .before in
     let m = at-next _ _ _ _ _ any (b .before .before .loop .inv) (λ _. b .if1 .left) in
-    let e = ltb-told (c .before .is-before .ensures) (b .before .before .before .rank-of .ensures) (c .before .before .rank-of2 .ensures) (c .if2 .taken) in
+    let e = ltb-told (c .before .is-before .ensures) (b .before .before .before .rank-of .ensures)
+    (c .before .before .rank-of2 .ensures) (c .if2 .taken) in
     (λ l d. sym (m .same l d ∙ place-stop _ _ _ _ _ _ e), b .before .before .loop .inv .start)
 
 cell-requires : tie.Need-cell-requires Inv-loop μ-loop
@@ -57,7 +58,8 @@ loop-again c =
     let b = c .before .before .before .before in
     let m = at-next _ _ _ _ _ any (b .before .before .loop .inv) (λ _. b .if1 .left) in
     let h = b .before .before .before .before .before .pre .1 .1 in
-    let e = ltb-told (c .before .before .is-before .ensures) (b .before .before .before .rank-of .ensures) (c .before .before .before .rank-of2 .ensures) (c .before .if2 .left) in
+    let e = ltb-told (c .before .before .is-before .ensures) (b .before .before .before .rank-of .ensures)
+    (c .before .before .before .rank-of2 .ensures) (c .before .if2 .left) in
     rw (c .cell .ensures .0) (at-past _ _ _ _ _ any (h .inside) (h .link) m tt (place-on _ _ _ _ _ _ e))
 
 pub seek-spec : {M : Type 1} → statement M

@@ -16,7 +16,8 @@ use Rattle.listing.proofs.list_elected.Tie as tie
 
 abbrev Inv-loop : tie.InvT-loop
 Inv-loop s n price list₀ at c i₀ m₀ left₀ list i m left =
-    At (electedStop price) (fillsOf price) s n (linkOf c) list₀ at (walked (electedStop price) (fillsOf price) s c) i m left list
+    At (electedStop price)
+    (fillsOf price) s n (linkOf c) list₀ at (walked (electedStop price) (fillsOf price) s c) i m left list
 
 abbrev μ-loop : tie.MeasureT-loop
 μ-loop s n price list₀ at c i₀ m₀ left₀ list i m left = left
@@ -36,7 +37,8 @@ loop-holds c =
     let (b, r, st, room) = start .pre in
     let a = start .args in
     rw (c .before .head-of .ensures)
-    (walk-start st (electedIn (a .side) (a .price) b) (λ p. fillWords (fillAt (a .price) p)) _ _ _ (elected-walked st (a .price) (a .side)) _ _ room)
+    (walk-start st (electedIn (a .side) (a .price) b)
+    (λ p. fillWords (fillAt (a .price) p)) _ _ _ (elected-walked st (a .price) (a .side)) _ _ room)
 
 terms-at-requires : tie.Need-terms-at-requires Inv-loop μ-loop
 terms-at-requires c κs = at-record _ _ _ _ _ _ _ _ (c .before .loop .inv) (c .loop-test .taken)
@@ -51,21 +53,26 @@ returns c =
     let a = l .before .before .before .before .args in
     let t = elected-told _ _ _ (b .terms-at .ensures) _ (not-true _ (c .if1 .taken)) (c .before .elected-by .ensures) in
     λ k r st.
-    walk-done st (electedIn (a .side) (a .price) k) (λ p. fillWords (fillAt (a .price) p)) _ _ _ (elected-walked st (a .price) (a .side)) _ _ _ _
+    walk-done st (electedIn (a .side) (a .price) k)
+    (λ p. fillWords (fillAt (a .price) p)) _ _ _ (elected-walked st (a .price) (a .side)) _ _ _ _
     (at-stop _ _ _ _ _ _ _ _ (l .loop .inv) (b .before .loop-test .taken) t)
 
 list-fill-requires : tie.Need-list-fill-requires Inv-loop μ-loop
 list-fill-requires c κs =
     let b = c .before .before .before in
     let a = b .before .before .loop .inv in
-    let t = elected-told _ _ _ (b .terms-at .ensures) _ (not-false _ (c .before .if1 .left)) (c .before .before .elected-by .ensures) in
+    let t = elected-told _ _ _ (b .terms-at .ensures) _ (not-false _ (c .before .if1 .left))
+    (c .before .before .elected-by .ensures) in
     let z = b .before .loop-test .taken in
     (at-record _ _ _ _ _ _ _ _ a z, fill-room _ _ _ _ (at-room _ _ _ _ _ _ _ _ a z t))
 
 word-requires : tie.Need-word-requires Inv-loop μ-loop
 word-requires c κs =
-    let b = c .before .before .before .before .before .before in
-    (at-record _ _ _ _ _ _ _ _ (b .before .before .loop .inv) (b .before .loop-test .taken), rw (c .link-of .ensures) (omega arith))
+    let b = c .before .before .before .before .before .before in (
+      at-record _ _ _ _ _ _ _ _ (b .before .before .loop .inv) (b .before .loop-test .taken),
+      rw (c .link-of .ensures)
+          (omega arith),
+    )
 
 sub-left : tie.Need-sub-left Inv-loop μ-loop
 sub-left c =
@@ -83,7 +90,8 @@ loop-again c =
     let t = elected-told _ _ _ (b .terms-at .ensures) _
     (not-false _ (m .before .before .if1 .left)) (m .before .before .before .elected-by .ensures) in
     let z = b .before .loop-test .taken in
-    rw (c .word .ensures, c .before .link-of .ensures) (at-next _ _ _ _ _ _ _ _ a z t _ _ (fill-written _ _ _ _ _ _ (m .list-fill .ensures)))
+    rw (c .word .ensures, c .before .link-of .ensures)
+    (at-next _ _ _ _ _ _ _ _ a z t _ _ (fill-written _ _ _ _ _ _ (m .list-fill .ensures)))
 
 same-length-2 : tie.Need-same-length-2 Inv-loop μ-loop
 same-length-2 c = at-length _ _ _ _ _ _ _ _ (c .before .loop .inv)
@@ -93,7 +101,8 @@ returns-2 c =
     let l = c .before in
     let a = l .before .before .before .before .args in
     λ k r st.
-    walk-done st (electedIn (a .side) (a .price) k) (λ p. fillWords (fillAt (a .price) p)) _ _ _ (elected-walked st (a .price) (a .side)) _ _ _ _
+    walk-done st (electedIn (a .side) (a .price) k)
+    (λ p. fillWords (fillAt (a .price) p)) _ _ _ (elected-walked st (a .price) (a .side)) _ _ _ _
     (at-end _ _ _ _ _ _ _ _ (l .loop .inv) (c .loop-test .left))
 
 pub list-elected-spec : {M : Type 1} → statement M

@@ -37,8 +37,11 @@ same-length c = search needs
 returns : tie.Need-returns
 returns c =
     let t = c .before .before .before .before .before .before .before in
-    let a = t .before .before .args in
-    (refl, ap (set (a .list .now) (a .at)) (fill-words _ _ _ (t .entry-at .ensures) _ _ (c .before .number .ensures) (c .number2 .ensures)))
+    let a = t .before .before .args in (
+      refl,
+      ap (set (a .list .now) (a .at))
+          (fill-words _ _ _ (t .entry-at .ensures) _ _ (c .before .number .ensures) (c .number2 .ensures)),
+    )
 
 pub list-fill-spec : {M : Type 1} → statement M
 list-fill-spec =

@@ -29,7 +29,8 @@ slice-set-from-list : tie.Need-slice-set-from-list
 slice-set-from-list c =
     let b = c .before .before .before .before .before in
     let a = b .before .before .before .before in
-    move-room _ _ _ (a .entry-at .ensures) _ (b .trailed .ensures) (c .before .if1 .left) _ _ (a .before .before .pre .1)
+    move-room _ _ _ (a .entry-at .ensures) _ (b .trailed .ensures)
+    (c .before .if1 .left) _ _ (a .before .before .pre .1)
 
 add-result : tie.Need-add-result
 add-result c = search needs

@@ -14,7 +14,8 @@ use Rattle.listing.proofs.list_moved.Tie as tie
 
 abbrev Inv-loop : tie.InvT-loop
 Inv-loop s n side price list₀ at c i₀ m₀ left₀ list i m left =
-    At (watermarkBehind side price) (movesOf price) s n (linkOf c) list₀ at (walked (watermarkBehind side price) (movesOf price) s c) i m left list
+    At (watermarkBehind side price)
+    (movesOf price) s n (linkOf c) list₀ at (walked (watermarkBehind side price) (movesOf price) s c) i m left list
 
 abbrev μ-loop : tie.MeasureT-loop
 μ-loop s n side price list₀ at c i₀ m₀ left₀ list i m left = left
@@ -56,14 +57,18 @@ list-move-requires : tie.Need-list-move-requires Inv-loop μ-loop
 list-move-requires c κs =
     let b = c .before .before .before .before in
     let a = b .before .before .loop .inv in
-    let t = behind-told _ _ _ (b .terms-at .ensures) _ (not-false _ (c .before .if1 .left)) _ (c .before .before .is-behind .ensures) in
+    let t = behind-told _ _ _ (b .terms-at .ensures) _ (not-false _ (c .before .if1 .left)) _
+    (c .before .before .is-behind .ensures) in
     let z = b .before .loop-test .taken in
     (at-record _ _ _ _ _ _ _ _ a z, at-room _ _ _ _ _ _ _ _ a z t)
 
 word-requires : tie.Need-word-requires Inv-loop μ-loop
 word-requires c κs =
-    let b = c .before .before .before .before .before .before .before in
-    (at-record _ _ _ _ _ _ _ _ (b .before .before .loop .inv) (b .before .loop-test .taken), rw (c .link-of .ensures) (omega arith))
+    let b = c .before .before .before .before .before .before .before in (
+      at-record _ _ _ _ _ _ _ _ (b .before .before .loop .inv) (b .before .loop-test .taken),
+      rw (c .link-of .ensures)
+          (omega arith),
+    )
 
 sub-left : tie.Need-sub-left Inv-loop μ-loop
 sub-left c =

@@ -19,14 +19,26 @@ unfolding changedEntry
 returns c =
     let s = c .before in
     let q = s .before .before in
-    λ b e. rw (q .before .changed-terms .ensures, q .changed-quantity .ensures, e, sym (s .takes-sequence .ensures) ∙ c .if1 .taken)
+    λ b e. rw (
+      q .before .changed-terms .ensures,
+      q .changed-quantity .ensures,
+      e,
+      sym (s .takes-sequence .ensures)
+          ∙ c .if1 .taken,
+    )
 
 returns-2 : tie.Need-returns-2
 unfolding changedEntry
 returns-2 c =
     let s = c .before in
     let q = s .before .before in
-    λ b e. rw (q .before .changed-terms .ensures, q .changed-quantity .ensures, e, sym (s .takes-sequence .ensures) ∙ c .if1 .left)
+    λ b e. rw (
+      q .before .changed-terms .ensures,
+      q .changed-quantity .ensures,
+      e,
+      sym (s .takes-sequence .ensures)
+          ∙ c .if1 .left,
+    )
 
 pub changed-entry-spec : {M : Type 1} → statement M
 changed-entry-spec =

@@ -15,7 +15,8 @@ complete-requires c κs =
     let s = p .before .before .before .before .before in
     let (f, (b, r, st, room, long)) = s .pre in (
       (_, r, p .segment-points .ensures b r st .3),
-      rw (p .segment-points .kept .1 .1 .1 .1 .0) (entries-inside (s .args .settings) _ _ _ _ _ _ (p .segment-points .ensures) st _ long),
+      rw (p .segment-points .kept .1 .1 .1 .1 .0)
+          (entries-inside (s .args .settings) _ _ _ _ _ _ (p .segment-points .ensures) st _ long),
     )
 
 execute-requires : tie.Need-execute-requires
@@ -53,7 +54,8 @@ returns c =
     let s = p .before .before .before .before .before in
     let (f, (b₀, r₀, st₀, room, long)) = s .pre in
     let inside = entries-inside (s .args .settings) _ _ _ _ _ _ (p .segment-points .ensures) st₀ _ long in
-    segment-passed (s .args .settings) _ _ _ _ _ _ (p .segment-points .ensures) _ (m .complete .ensures) inside _ _ _ _ _ _ (x .execute .ensures .0)
+    segment-passed (s .args .settings) _ _ _ _ _ _ (p .segment-points .ensures) _
+    (m .complete .ensures) inside _ _ _ _ _ _ (x .execute .ensures .0)
 
 pub pass-segment-spec : {M : Type 1} → statement M
 pass-segment-spec =

@@ -1,4 +1,5 @@
--- `passing::pass` meets its contract: each turn takes a segment from the queue, and hands on the part of the script behind the used entries.
+-- `passing::pass` meets its contract: each turn takes a segment from the queue, and hands on the part of the script
+-- behind the used entries.
 use Prim.Native.Nat.{_-_}
 use mathlib.Core.Path.{sym}
 use native.Mathlib.Omega.{arith}
@@ -13,7 +14,8 @@ Inv-loop s₀ n settings script list₀ queue₀ head₀ tail₀ moves₀ at₀ 
     Passes settings script n s₀ list₀ queue₀ head₀ tail₀ s list queue head tail moves at used
 
 abbrev μ-loop : tie.MeasureT-loop
-μ-loop s₀ n settings script list₀ queue₀ head₀ tail₀ moves₀ at₀ used₀ s list queue head tail moves at used = length queue₀ - head
+μ-loop s₀ n settings script list₀ queue₀ head₀ tail₀ moves₀ at₀ used₀ s list queue head tail moves at used =
+    length queue₀ - head
 
 loop-holds : tie.Need-loop-holds Inv-loop μ-loop
 loop-holds c =
@@ -32,30 +34,40 @@ slice-read-if1 c = count-inside (c .before .before .before .before .before .befo
 mul-pass-segment : tie.Need-mul-pass-segment Inv-loop μ-loop
 mul-pass-segment c =
     let l = c .before .before .before .before .before .before .before .before in
-    record { fits = omega (arith, script-within (l .loop .inv), l .before .before .before .before .good .1 .1 .1 .0 .0) }
+    record {
+      fits = omega (arith, script-within (l .loop .inv), l .before .before .before .before .good .1 .1 .1 .0 .0);
+    }
 
 mul-pass-segment-2 : tie.Need-mul-pass-segment-2 Inv-loop μ-loop
 mul-pass-segment-2 c =
     let l = c .before .before .before .before .before .before .before .before in
-    record { fits = omega (arith, script-within (l .loop .inv), l .before .before .before .before .good .1 .1 .1 .0 .1) }
+    record {
+      fits = omega (arith, script-within (l .loop .inv), l .before .before .before .before .good .1 .1 .1 .0 .1);
+    }
 
 sub-pass-segment : tie.Need-sub-pass-segment Inv-loop μ-loop
-sub-pass-segment c = omega (arith, script-within (c .before .before .before .before .before .before .before .before .loop .inv))
+sub-pass-segment c = omega
+    (arith, script-within (c .before .before .before .before .before .before .before .before .loop .inv))
 
 part-pass-segment-start : tie.Need-part-pass-segment-start Inv-loop μ-loop
-part-pass-segment-start c = omega (arith, script-within (c .before .before .before .before .before .before .before .before .loop .inv))
+part-pass-segment-start c =
+    omega (arith, script-within (c .before .before .before .before .before .before .before .before .loop .inv))
 
 slice-aggregate-pass-segment : tie.Need-slice-aggregate-pass-segment Inv-loop μ-loop
-slice-aggregate-pass-segment c = sym (c .before .before .before .before .before .before .before .before .before .before .loop .inv .same-queue)
+slice-aggregate-pass-segment c =
+    sym (c .before .before .before .before .before .before .before .before .before .before .loop .inv .same-queue)
 
 pass-segment-requires : tie.Need-pass-segment-requires Inv-loop μ-loop
-pass-segment-requires c κs = segment-asks (c .before .before .before .before .before .before .before .before .before .before .before .loop .inv)
+pass-segment-requires c κs =
+    segment-asks (c .before .before .before .before .before .before .before .before .before .before .before .loop .inv)
 
 add-head : tie.Need-add-head Inv-loop μ-loop
 add-head c =
     let x = c .before .before .before .before .before .before .before .before .before .before .before .before in
     let a = x .before .before in
-    record { fits = omega (arith, head-few (a .before .before .loop .inv) (x .next .given .1) (a .segment-at .ensures)) }
+    record {
+      fits = omega (arith, head-few (a .before .before .loop .inv) (x .next .given .1) (a .segment-at .ensures));
+    }
 
 add-moves : tie.Need-add-moves Inv-loop μ-loop
 add-moves c =
@@ -63,8 +75,10 @@ add-moves c =
     let i = g .before .before .before .before .before in
     let x = i .before .before .before in
     let a = x .before .before in
-    let h = passes-next (a .before .before .loop .inv) (x .next .given .1) (a .segment-at .ensures) (i .if1 .left) (g .pass-segment .ensures)
-    (g .pass-segment .kept .0) (g .pass-segment .kept .1 .1 .1 .1 .1 .1 .1 .0) (g .pass-segment .kept .1 .1 .1 .1 .1 .0) in
+    let h = passes-next (a .before .before .loop .inv) (x .next .given .1) (a .segment-at .ensures) (i .if1 .left)
+    (g .pass-segment .ensures)
+    (g .pass-segment .kept .0) (g .pass-segment .kept .1 .1 .1 .1 .1 .1 .1 .0)
+    (g .pass-segment .kept .1 .1 .1 .1 .1 .0) in
     record { fits = omega (arith, moves-word h) }
 
 add-used : tie.Need-add-used Inv-loop μ-loop
@@ -73,8 +87,10 @@ add-used c =
     let i = g .before .before .before .before .before in
     let x = i .before .before .before in
     let a = x .before .before in
-    let h = passes-next (a .before .before .loop .inv) (x .next .given .1) (a .segment-at .ensures) (i .if1 .left) (g .pass-segment .ensures)
-    (g .pass-segment .kept .0) (g .pass-segment .kept .1 .1 .1 .1 .1 .1 .1 .0) (g .pass-segment .kept .1 .1 .1 .1 .1 .0) in
+    let h = passes-next (a .before .before .loop .inv) (x .next .given .1) (a .segment-at .ensures) (i .if1 .left)
+    (g .pass-segment .ensures)
+    (g .pass-segment .kept .0) (g .pass-segment .kept .1 .1 .1 .1 .1 .1 .1 .0)
+    (g .pass-segment .kept .1 .1 .1 .1 .1 .0) in
     let s = a .before .before .before .before .before .before in
     record { fits = omega (arith, script-within h, s .good .1 .1 .1 .0 .0) }
 
@@ -90,8 +106,10 @@ loop-again c =
     let i = g .before .before .before .before .before in
     let x = i .before .before .before in
     let a = x .before .before in
-    let h = passes-next (a .before .before .loop .inv) (x .next .given .1) (a .segment-at .ensures) (i .if1 .left) (g .pass-segment .ensures)
-    (g .pass-segment .kept .0) (g .pass-segment .kept .1 .1 .1 .1 .1 .1 .1 .0) (g .pass-segment .kept .1 .1 .1 .1 .1 .0) in
+    let h = passes-next (a .before .before .loop .inv) (x .next .given .1) (a .segment-at .ensures) (i .if1 .left)
+    (g .pass-segment .ensures)
+    (g .pass-segment .kept .0) (g .pass-segment .kept .1 .1 .1 .1 .1 .1 .1 .0)
+    (g .pass-segment .kept .1 .1 .1 .1 .1 .0) in
     h
 
 same-length : tie.Need-same-length Inv-loop μ-loop
@@ -104,7 +122,8 @@ returns : tie.Need-returns Inv-loop μ-loop
 returns c =
     let a = c .before .before in
     let l = a .before .before in
-    passes-none _ _ vacant (l .before .segment-words .ensures) (l .loop .inv) (c .enum-told .given .1) (a .segment-at .ensures)
+    passes-none _ _ vacant (l .before .segment-words .ensures) (l .loop .inv) (c .enum-told .given .1)
+    (a .segment-at .ensures)
 
 same-length-3 : tie.Need-same-length-3 Inv-loop μ-loop
 same-length-3 c = c .before .before .before .before .before .before .before .loop .inv .same-words

@@ -12,7 +12,8 @@ slice-write-s : tie.Need-slice-write-s
 slice-write-s c = let (b, r, st, m, v, f) = c .before .pre in omega (arith, stored-room st)
 
 unlink-requires : tie.Need-unlink-requires
-unlink-requires c κs = let (b, r, st, m, v, f) = c .before .before .pre in (chainsOf b, replacing-on _ _ b r st _ _ m _ _ v f)
+unlink-requires c κs = let (b, r, st, m, v, f) =
+    c .before .before .pre in (chainsOf b, replacing-on _ _ b r st _ _ m _ _ v f)
 
 write-entry-requires : tie.Need-write-entry-requires
 write-entry-requires c κs =
@@ -26,7 +27,8 @@ link-requires c κs =
     let unlinked = stored .before .before .before .before in
     let (b, r, st, m, v, f) = unlinked .before .before .before .pre in (
       chainsWithout _ (replaced _ _ _ b),
-      replacing-ready _ _ b r st _ _ m _ _ v f _ (unlinked .unlink .ensures .0) (unlinked .unlink .ensures .1) _ (stored .write-entry .ensures),
+      replacing-ready _ _ b r st _ _ m _ _ v f _ (unlinked .unlink .ensures .0)
+          (unlinked .unlink .ensures .1) _ (stored .write-entry .ensures),
     )
 
 same-length : tie.Need-same-length
@@ -35,14 +37,17 @@ same-length c =
     let stored = linked .before .before .before .before .before in
     let unlinked = stored .before .before .before .before in
     let (b, r, st, m, v, f) = unlinked .before .before .before .pre in
-    replaced-length _ _ b r st _ _ m _ _ v f _ (unlinked .unlink .ensures .0) (unlinked .unlink .ensures .1) _ (stored .write-entry .ensures) _ (linked .link .ensures .0)
+    replaced-length _ _ b r st _ _ m _ _ v f _ (unlinked .unlink .ensures .0)
+    (unlinked .unlink .ensures .1) _ (stored .write-entry .ensures) _ (linked .link .ensures .0)
 
 returns : tie.Need-returns
 returns c =
     let linked = c .before .before in
     let stored = linked .before .before .before .before .before in
     let unlinked = stored .before .before .before .before in
-    λ b r st m v f. replaced-stored _ _ b r st _ _ m _ _ v f _ (unlinked .unlink .ensures .0) (unlinked .unlink .ensures .1) _ (stored .write-entry .ensures) _ (linked .link .ensures .0) (linked .link .ensures .1)
+    λ b r st m v f. replaced-stored _ _ b r st _ _ m _ _ v f _ (unlinked .unlink .ensures .0)
+    (unlinked .unlink .ensures .1) _ (stored .write-entry .ensures) _ (linked .link .ensures .0)
+    (linked .link .ensures .1)
 
 pub change-spec : {M : Type 1} → statement M
 change-spec =

@@ -23,10 +23,12 @@ slice-write-s : tie.Need-slice-write-s
 slice-write-s c = let (b, r, st, a, last) = c .before .before .before .pre in omega (arith, stored-room st)
 
 add-s-2 : tie.Need-add-s-2
-add-s-2 c = let (b, r, st, a, last) = c .before .before .before .pre in omega (arith, last, next-word _ _ b r st (a .room))
+add-s-2 c = let (b, r, st, a, last) =
+    c .before .before .before .pre in omega (arith, last, next-word _ _ b r st (a .room))
 
 slice-write-s-2 : tie.Need-slice-write-s-2
-slice-write-s-2 c = let (b, r, st, a, last) = c .before .before .before .pre in simp length-set (omega (arith, stored-room st))
+slice-write-s-2 c = let (b, r, st, a, last) =
+    c .before .before .before .pre in simp length-set (omega (arith, stored-room st))
 
 pop-requires : tie.Need-pop-requires
 pop-requires c κs =
@@ -50,7 +52,8 @@ link-requires c κs =
     let taken = stored .before .before .before .before in
     let (b, r, st, a, last) = taken .before .before .before .before .before .pre in (
       chainsWithout _ (admitted (newEntry _ _ _ b) b),
-      occupying-ready _ _ b r st _ _ _ a _ (taken .pop .ensures .0) _ (taken .pop .ensures .1) _ (stored .write-entry .ensures),
+      occupying-ready _ _ b r st _ _ _ a _ (taken .pop .ensures .0) _ (taken .pop .ensures .1) _
+          (stored .write-entry .ensures),
     )
 
 same-length : tie.Need-same-length
@@ -59,7 +62,8 @@ same-length c =
     let stored = linked .before .before .before .before in
     let taken = stored .before .before .before .before in
     let (b, r, st, a, last) = taken .before .before .before .before .before .pre in
-    occupied-length _ _ b r st _ _ _ a _ (taken .pop .ensures .0) _ (taken .pop .ensures .1) _ (stored .write-entry .ensures) _ (linked .link .ensures .0)
+    occupied-length _ _ b r st _ _ _ a _ (taken .pop .ensures .0) _ (taken .pop .ensures .1) _
+    (stored .write-entry .ensures) _ (linked .link .ensures .0)
 
 returns : tie.Need-returns
 unfolding newEntry
@@ -70,7 +74,8 @@ returns c =
     let start = taken .before .before .before .before .before in
     λ b r st a last. (
       next-word _ _ b r st (a .room),
-      occupied-stored _ _ b r st _ _ _ a _ (taken .pop .ensures .0) _ (taken .pop .ensures .1) _ (stored .write-entry .ensures)
+      occupied-stored _ _ b r st _ _ _ a _ (taken .pop .ensures .0) _ (taken .pop .ensures .1) _
+          (stored .write-entry .ensures)
           (record {
             high = omega (arith, start .good);
             low = omega (arith, start .good);

@@ -30,8 +30,10 @@ push-requires c κs =
     let unlinked = blanked .before .before .before .before in
     let (b, r, st, m) = unlinked .before .before .before .before .pre in (
       chainsWithout _ b,
-      ready3 _ _ b r st _ _ m _ (unlinked .unlink .ensures .0) (unlinked .unlink .ensures .1) _ (blanked .write-free .ensures),
-      blank3 _ _ b r st _ _ m _ (unlinked .unlink .ensures .0) (unlinked .unlink .ensures .1) _ (blanked .write-free .ensures),
+      ready3 _ _ b r st _ _ m _ (unlinked .unlink .ensures .0)
+          (unlinked .unlink .ensures .1) _ (blanked .write-free .ensures),
+      blank3 _ _ b r st _ _ m _ (unlinked .unlink .ensures .0)
+          (unlinked .unlink .ensures .1) _ (blanked .write-free .ensures),
     )
 
 same-length : tie.Need-same-length
@@ -40,14 +42,17 @@ same-length c =
     let blanked = pushed .before .before .before .before in
     let unlinked = blanked .before .before .before .before in
     let (b, r, st, m) = unlinked .before .before .before .before .pre in
-    vacated-length _ _ b r st _ _ m _ (unlinked .unlink .ensures .0) (unlinked .unlink .ensures .1) _ (blanked .write-free .ensures) _ (pushed .push .ensures .0)
+    vacated-length _ _ b r st _ _ m _ (unlinked .unlink .ensures .0)
+    (unlinked .unlink .ensures .1) _ (blanked .write-free .ensures) _ (pushed .push .ensures .0)
 
 returns : tie.Need-returns
 returns c =
     let pushed = c .before .before in
     let blanked = pushed .before .before .before .before in
     let unlinked = blanked .before .before .before .before in
-    λ b r st m. vacated-stored _ _ b r st _ _ m _ (unlinked .unlink .ensures .0) (unlinked .unlink .ensures .1) _ (blanked .write-free .ensures) _ (pushed .push .ensures .0) (pushed .push .ensures .1)
+    λ b r st m. vacated-stored _ _ b r st _ _ m _ (unlinked .unlink .ensures .0)
+    (unlinked .unlink .ensures .1) _ (blanked .write-free .ensures) _ (pushed .push .ensures .0)
+    (pushed .push .ensures .1)
 
 pub vacate-spec : {M : Type 1} → statement M
 vacate-spec =

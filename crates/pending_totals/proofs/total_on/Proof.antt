@@ -15,7 +15,11 @@ loop-holds : tie.Need-loop-holds Inv-loop μ-loop
 loop-holds c = summed-none _ _ _
 
 quantity-on-requires : tie.Need-quantity-on-requires Inv-loop μ-loop
-quantity-on-requires c κs = record { least = c .before .loop .inv .least; most = c .loop-test .taken; inside = c .before .before .before .pre }
+quantity-on-requires c κs = record {
+  least = c .before .loop .inv .least;
+  most = c .loop-test .taken;
+  inside = c .before .before .before .pre;
+}
 
 plus-requires : tie.Need-plus-requires Inv-loop μ-loop
 plus-requires c κs = omega (arith, c .before .before .before .before .pre .few)
@@ -29,7 +33,8 @@ loop-less c = omega arith
 loop-again : tie.Need-loop-again Inv-loop μ-loop
 loop-again c =
     let b = c .before .before in
-    summed-more _ _ _ _ _ _ _ (b .loop-test .taken) (b .before .loop .inv) (c .before .quantity-on .ensures) (c .plus .ensures .0) (c .plus .ensures .1)
+    summed-more _ _ _ _ _ _ _ (b .loop-test .taken) (b .before .loop .inv) (c .before .quantity-on .ensures)
+    (c .plus .ensures .0) (c .plus .ensures .1)
 
 returns : tie.Need-returns Inv-loop μ-loop
 returns c = summed-all _ _ _ _ _ (c .loop-test .left) (c .before .loop .inv)

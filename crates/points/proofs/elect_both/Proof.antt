@@ -17,8 +17,13 @@ elect-on-requires-2 c κs =
     let one = c .before .before .before .before .before in
     let o = one .before .before .before in
     let (b, r, st, room) = o .before .before .pre in
-    let size = one .elect-on .kept .1 .1 .1 .1 .0 in
-    (_, r, one .elect-on .ensures b r st .2, rw (o .other .ensures, size) (second-room _ _ _ _ _ _ (one .elect-on .ensures) _ st room))
+    let size = one .elect-on .kept .1 .1 .1 .1 .0 in (
+      _,
+      r,
+      one .elect-on .ensures b r st .2,
+      rw (o .other .ensures, size)
+          (second-room _ _ _ _ _ _ (one .elect-on .ensures) _ st room),
+    )
 
 same-length : tie.Need-same-length
 same-length c = search needs
@@ -30,7 +35,8 @@ returns : tie.Need-returns
 returns c =
     let two = c .before .before .before in
     let one = two .before .before .before .before .before .before in
-    elected-both _ _ _ _ _ _ (one .elect-on .ensures) _ _ (rw (one .before .before .before .other .ensures) at (two .elect-on2 .ensures))
+    elected-both _ _ _ _ _ _ (one .elect-on .ensures) _ _
+    (rw (one .before .before .before .other .ensures) at (two .elect-on2 .ensures))
 
 pub elect-both-spec : {M : Type 1} → statement M
 elect-both-spec =

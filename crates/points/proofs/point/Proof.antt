@@ -34,7 +34,8 @@ returns-2 c =
     let f = e .before .before in
     let i = f .before .before in
     rw (i .if1 .left)
-    (point-done _ _ _ _ _ (i .before .before .before .trail-both .ensures) _ _ (rw (f .first-side .ensures) at (e .elect-both .ensures)))
+    (point-done _ _ _ _ _ (i .before .before .before .trail-both .ensures) _ _
+    (rw (f .first-side .ensures) at (e .elect-both .ensures)))
 
 pub point-spec : {M : Type 1} → statement M
 point-spec =

@@ -30,7 +30,9 @@ loop-holds c = walked-first
 
 mul-t24 : tie.Need-mul-t24 Inv-loop μ-loop
 mul-t24 c =
-    record { fits = omega (arith, c .loop-test .taken, c .before .before .before .before .before .before .before .pre .1) }
+    record {
+      fits = omega (arith, c .loop-test .taken, c .before .before .before .before .before .before .before .pre .1);
+    }
 
 shared-slice-read-t26 : tie.Need-shared-slice-read-t26 Inv-loop μ-loop
 shared-slice-read-t26 c = c .before .loop-test .taken
@@ -47,8 +49,11 @@ add-moves c =
     let l = p .before .before .before .before .before .before in
     let (b, r, st, room) = l .before .before .before .before .before .before .pre .0 in
     let i = p .before .before .before .before .before .loop-test .taken in
-    let few = point-moves-few (l .loop .inv) i _ _ (rw (p .before .before .sells-first .ensures) at (p .point .ensures)) st in
-    record { fits = omega (arith, few, l .loop .inv .few-moves, i, l .before .before .before .before .before .before .pre .1) }
+    let few = point-moves-few (l .loop .inv) i _ _
+    (rw (p .before .before .sells-first .ensures) at (p .point .ensures)) st in
+    record {
+      fits = omega (arith, few, l .loop .inv .few-moves, i, l .before .before .before .before .before .before .pre .1);
+    }
 
 loop-less : tie.Need-loop-less Inv-loop μ-loop
 loop-less c = omega (arith, c .before .before .before .before .before .before .before .before .before .loop-test .taken)
@@ -72,7 +77,8 @@ returns : tie.Need-returns Inv-loop μ-loop
 returns c =
     let l = c .before in
     let f = l .before in
-    walked-last (l .loop .inv) (f .falls-to .ensures) (f .before .before .before .before .before .pre .1 .0) (c .loop-test .left)
+    walked-last (l .loop .inv) (f .falls-to .ensures) (f .before .before .before .before .before .pre .1 .0)
+    (c .loop-test .left)
 
 pub walk-points-spec : {M : Type 1} → statement M
 walk-points-spec =

@@ -24,12 +24,16 @@ loop-holds c = (omega arith, refl)
 returns : tie.Need-returns Inv-loop μ-loop
 returns c =
     let b = c .before .before in
-    every-no _ _ _ _ (b .before .loop .inv .1) (b .loop-test .taken) (sym (c .before .is-blank-at .ensures) ∙ not-true _ (c .if1 .taken))
+    every-no _ _ _ _ (b .before .loop .inv .1) (b .loop-test .taken)
+    (sym (c .before .is-blank-at .ensures) ∙ not-true _ (c .if1 .taken))
 
 loop-again : tie.Need-loop-again Inv-loop μ-loop
 loop-again c =
-    let b = c .before .before in
-    (omega arith, every-yes _ _ _ _ (b .before .loop .inv .1) (b .loop-test .taken) (sym (c .before .is-blank-at .ensures) ∙ not-false _ (c .if1 .left)))
+    let b = c .before .before in (
+      omega arith,
+      every-yes _ _ _ _ (b .before .loop .inv .1) (b .loop-test .taken)
+          (sym (c .before .is-blank-at .ensures) ∙ not-false _ (c .if1 .left)),
+    )
 
 returns-2 : tie.Need-returns-2 Inv-loop μ-loop
 returns-2 c = every-end _ _ _ _ (c .before .loop .inv .1) (c .loop-test .left)

@@ -15,7 +15,8 @@ returns-2 : tie.Need-returns-2
 unfolding recordFormed isZero
 returns-2 c =
     let e1 = c .before .before in
-    rw (ne-eqb _ _ (λ e. e1 .if1 .left (e1 .before .word .ensures ∙ e))) (and-fails _ _ (lt-leb _ _ (rw (c .before .word2 .ensures) at (c .if2 .taken))))
+    rw (ne-eqb _ _ (λ e. e1 .if1 .left (e1 .before .word .ensures ∙ e)))
+    (and-fails _ _ (lt-leb _ _ (rw (c .before .word2 .ensures) at (c .if2 .taken))))
 
 returns-3 : tie.Need-returns-3
 unfolding recordFormed isZero

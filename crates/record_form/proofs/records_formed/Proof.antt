@@ -11,7 +11,8 @@ use Rattle.record_form.proofs.records_formed.Statement.{statement}
 use Rattle.record_form.proofs.records_formed.Tie as tie
 
 abbrev Inv-loop : tie.InvT-loop
-Inv-loop s n i₀ left₀ i left = (1 ≤ i) × (i + left ≡ n + 1) × (every (recordFormed s) (rising 1 n) ≡ every (recordFormed s) (rising i left))
+Inv-loop s n i₀ left₀ i left =
+    (1 ≤ i) × (i + left ≡ n + 1) × (every (recordFormed s) (rising 1 n) ≡ every (recordFormed s) (rising i left))
 
 abbrev μ-loop : tie.MeasureT-loop
 μ-loop s n i₀ left₀ i left = left
@@ -22,12 +23,17 @@ loop-holds c = (omega arith, omega arith, refl)
 returns : tie.Need-returns Inv-loop μ-loop
 returns c =
     let b = c .before .before in
-    every-no _ _ _ _ (b .before .loop .inv .2) (b .loop-test .taken) (sym (c .before .record-formed .ensures) ∙ not-true _ (c .if1 .taken))
+    every-no _ _ _ _ (b .before .loop .inv .2) (b .loop-test .taken)
+    (sym (c .before .record-formed .ensures) ∙ not-true _ (c .if1 .taken))
 
 loop-again : tie.Need-loop-again Inv-loop μ-loop
 loop-again c =
-    let b = c .before .before in
-    (omega arith, omega arith, every-yes _ _ _ _ (b .before .loop .inv .2) (b .loop-test .taken) (sym (c .before .record-formed .ensures) ∙ not-false _ (c .if1 .left)))
+    let b = c .before .before in (
+      omega arith,
+      omega arith,
+      every-yes _ _ _ _ (b .before .loop .inv .2) (b .loop-test .taken)
+          (sym (c .before .record-formed .ensures) ∙ not-false _ (c .if1 .left)),
+    )
 
 returns-2 : tie.Need-returns-2 Inv-loop μ-loop
 returns-2 c = every-end _ _ _ _ (c .before .loop .inv .2) (c .loop-test .left)

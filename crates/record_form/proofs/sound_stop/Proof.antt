@@ -19,7 +19,8 @@ returns-2 c =
     let w = e1 .before .before in
     and-passes _ _ _ (lt-ltb _ _ (rw (w .word .ensures) at (e1 .if1 .left)))
     (and-passes _ _ _ (le-leb _ _ (w .before .before .pre .1))
-    (and-fails _ _ (ap consistent (sym (t .terms-at .ensures)) ∙ sym (c .before .is-consistent .ensures) ∙ not-true _ (c .if2 .taken))))
+    (and-fails _ _ (ap consistent (sym (t .terms-at .ensures)) ∙ sym (c .before .is-consistent .ensures)
+    ∙ not-true _ (c .if2 .taken))))
 
 returns-3 : tie.Need-returns-3
 unfolding soundStop entryAt
@@ -30,7 +31,8 @@ returns-3 c =
     let w = e1 .before .before in
     and-passes _ _ _ (lt-ltb _ _ (rw (w .word .ensures) at (e1 .if1 .left)))
     (and-passes _ _ _ (le-leb _ _ (w .before .before .pre .1))
-    (and-passes _ _ _ (ap consistent (sym (t .terms-at .ensures)) ∙ sym (e2 .before .is-consistent .ensures) ∙ not-false _ (e2 .if2 .left))
+    (and-passes _ _ _ (ap consistent (sym (t .terms-at .ensures)) ∙ sym (e2 .before .is-consistent .ensures)
+    ∙ not-false _ (e2 .if2 .left))
     (rw (t .terms-at .ensures) at (c .on-tick .ensures))))
 
 pub sound-stop-spec : {M : Type 1} → statement M

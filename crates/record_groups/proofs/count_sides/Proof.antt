@@ -1,5 +1,5 @@
--- `record_groups::count_sides` meets its contract. The loop's invariant, for each side: what was counted and what is still to be counted is the
--- whole count.
+-- `record_groups::count_sides` meets its contract. The loop's invariant, for each side: what was counted and what is
+-- still to be counted is the whole count.
 use Prim.Native.Nat.{_+_, _≤_, _<_}
 use mathlib.Core.Path.{_≡_}
 use mathlib.Core.Logic.{inl, inr, ⊎-elim}
@@ -40,7 +40,10 @@ loop-again c =
 returns : tie.Need-returns Inv-loop μ-loop
 returns c =
     let i = c .before .loop .inv in
-    record { sells = count-end _ _ _ _ _ _ (i .4) (c .loop-test .left); buys = count-end _ _ _ _ _ _ (i .5) (c .loop-test .left) }
+    record {
+      sells = count-end _ _ _ _ _ _ (i .4) (c .loop-test .left);
+      buys = count-end _ _ _ _ _ _ (i .5) (c .loop-test .left);
+    }
 
 pub count-sides-spec : {M : Type 1} → statement M
 count-sides-spec =

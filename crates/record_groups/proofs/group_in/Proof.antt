@@ -6,7 +6,8 @@ use Rattle.record_groups.proofs.group_in.Statement.{statement}
 use Rattle.record_groups.proofs.group_in.Tie as tie
 
 returns : tie.Need-returns
-returns c = rw (c .before .before .before .k .given .1) (c .number .ensures ∙ ap sideNumber (c .before .side-of .ensures))
+returns c = rw (c .before .before .before .k .given .1)
+    (c .number .ensures ∙ ap sideNumber (c .before .side-of .ensures))
 
 pub group-in-spec : {M : Type 1} → statement M
 group-in-spec =

@@ -9,25 +9,45 @@ returns : tie.Need-returns
 unfolding rankAt rank entryAt
 returns c =
     let b = c .before .before in
-    rw (b .before .before .c .given .1, c .enum-told .given .1, b .word2 .ensures, b .before .before .before .before .word .ensures)
+    rw (
+      b .before .before .c .given .1,
+      c .enum-told .given .1,
+      b .word2 .ensures,
+      b .before .before .before .before .word .ensures,
+    )
 
 returns-2 : tie.Need-returns-2
 unfolding rankAt rank entryAt
 returns-2 c =
     let b = c .before .before in
-    rw (b .before .before .c .given .1, c .enum-told2 .given .1, b .word2 .ensures, b .before .before .before .before .word .ensures)
+    rw (
+      b .before .before .c .given .1,
+      c .enum-told2 .given .1,
+      b .word2 .ensures,
+      b .before .before .before .before .word .ensures,
+    )
 
 returns-3 : tie.Need-returns-3
 unfolding rankAt rank entryAt
 returns-3 c =
     let b = c .before .before in
-    rw (b .before .before .c2 .given .1, c .enum-told3 .given .1, b .word3 .ensures, b .before .before .before .before .word .ensures)
+    rw (
+      b .before .before .c2 .given .1,
+      c .enum-told3 .given .1,
+      b .word3 .ensures,
+      b .before .before .before .before .word .ensures,
+    )
 
 returns-4 : tie.Need-returns-4
 unfolding rankAt rank entryAt
 returns-4 c =
     let b = c .before .before in
-    rw (b .before .before .c2 .given .1, c .enum-told4 .given .1, b .word3 .ensures, b .before .before .before .before .word .ensures)
+    rw (
+      b .before .before .c2 .given .1,
+      c .enum-told4 .given .1,
+      b .word3 .ensures,
+      b .before .before .before .before .word .ensures,
+    )
 
 pub rank-of-spec : {M : Type 1} → statement M
 rank-of-spec =

@@ -15,14 +15,17 @@ returns c = sym (preview-still _ _ _ _ _ (sym (c .before .is-behind .ensures) �
 
 returns-2 : tie.Need-returns-2
 unfolding toldPreview toldCandidate
-returns-2 c = sym (preview-beyond _ _ _ _ _ (sym (c .before .before .candidate-at .ensures) ∙ ap toldCandidate (c .enum-told .given .1)))
+returns-2 c = sym (preview-beyond _ _ _ _ _
+    (sym (c .before .before .candidate-at .ensures) ∙ ap toldCandidate (c .enum-told .given .1)))
 
 returns-3 : tie.Need-returns-3
 unfolding toldPreview toldCandidate
 returns-3 c =
     let b = c .before .before .before .before .before in
     let a = b .before .before .before .args in
-    let e : candidate (a .side) (a .trail-amount) (a .current-market-price .0) ≡ some (c .before .before .before .stop .given .0 .0 .0) = sym (b .candidate-at .ensures) ∙ ap toldCandidate (c .before .before .before .stop .given .1) in
+    let e : candidate (a .side) (a .trail-amount)
+    (a .current-market-price .0) ≡ some (c .before .before .before .stop .given .0 .0 .0) =
+    sym (b .candidate-at .ensures) ∙ ap toldCandidate (c .before .before .before .stop .given .1) in
     sym (preview-kept _ _ _ _ _ _ e (sym (c .before .is-behind2 .ensures) ∙ not-true _ (c .if2 .taken)))
 
 returns-4 : tie.Need-returns-4
@@ -30,8 +33,12 @@ unfolding toldPreview toldCandidate
 returns-4 c =
     let b = c .before .before .before .before .before in
     let a = b .before .before .before .args in
-    let e : candidate (a .side) (a .trail-amount) (a .current-market-price .0) ≡ some (c .before .before .before .stop .given .0 .0 .0) = sym (b .candidate-at .ensures) ∙ ap toldCandidate (c .before .before .before .stop .given .1) in
-    sym (preview-adjusted _ _ _ _ _ _ (sym (b .before .before .is-behind .ensures) ∙ not-false _ (b .before .if1 .left)) e (sym (c .before .is-behind2 .ensures) ∙ not-false _ (c .if2 .left)))
+    let e : candidate (a .side) (a .trail-amount)
+    (a .current-market-price .0) ≡ some (c .before .before .before .stop .given .0 .0 .0) =
+    sym (b .candidate-at .ensures) ∙ ap toldCandidate (c .before .before .before .stop .given .1) in
+    sym (preview-adjusted _ _ _ _ _ _
+    (sym (b .before .before .is-behind .ensures) ∙ not-false _ (b .before .if1 .left)) e
+    (sym (c .before .is-behind2 .ensures) ∙ not-false _ (c .if2 .left)))
 
 pub calculate-trailing-stop-price-spec : {M : Type 1} → statement M
 calculate-trailing-stop-price-spec =

@@ -24,7 +24,8 @@ returns-3 c =
     let s = b .before .before .before in
     let (f, h, t) = s .pre in
     let left = entry-left (s .args .script .now) (s .args .used) f h (b .if2 .left) in
-    λ e is. one-entry e _ is _ _ _ _ (b .before .if1 .left) (rw length-drop (omega (arith, left))) _ _ (c .before .put-printed .ensures)
+    λ e is. one-entry e _ is _ _ _ _ (b .before .if1 .left)
+    (rw length-drop (omega (arith, left))) _ _ (c .before .put-printed .ensures)
 
 pub execute-one-spec : {M : Type 1} → statement M
 execute-one-spec =

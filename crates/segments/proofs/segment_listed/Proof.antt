@@ -20,7 +20,8 @@ sells-first-requires c κs = search needs
 
 point-requires : tie.Need-point-requires
 point-requires c κs =
-    let (b, r, st, room, more) = c .before .before .before .before .before .before .before .before .before .before .before .pre in
+    let (b, r, st, room, more) =
+    c .before .before .before .before .before .before .before .before .before .before .before .pre in
     (b, r, st, omega (arith, room))
 
 second-point-requires : tie.Need-second-point-requires
@@ -55,8 +56,13 @@ list-moves-requires-2 : tie.Need-list-moves-requires-2
 list-moves-requires-2 c κs =
     let p = c .before .before .before .before .before .before .before .before .before in
     let l = p .before .before .before .before .before in
-    let (b, r, st, room, more) = l .before .before .before .before .before .before .before .pre in
-    (_, r, p .point .ensures b r st .3, rw (l .list-moves .kept .1 .1 .1 .0) (second-moves _ _ _ _ _ _ _ (l .list-moves .ensures) _ st more))
+    let (b, r, st, room, more) = l .before .before .before .before .before .before .before .pre in (
+      _,
+      r,
+      p .point .ensures b r st .3,
+      rw (l .list-moves .kept .1 .1 .1 .0)
+          (second-moves _ _ _ _ _ _ _ (l .list-moves .ensures) _ st more),
+    )
 
 sells-first-requires-2 : tie.Need-sells-first-requires-2
 sells-first-requires-2 c κs = search needs
@@ -64,15 +70,21 @@ sells-first-requires-2 c κs = search needs
 point-requires-2 : tie.Need-point-requires-2
 point-requires-2 c κs =
     let p = c .before .before .before .before .before .before .before .before .before .before .before .before .before .before in
-    let (b, r, st, room, more) = p .before .before .before .before .before .before .before .before .before .before .before .before .pre in
-    let size = p .point .kept .1 .1 .1 .1 .1 .0 in
-    (_, r, p .point .ensures b r st .3, rw size (room-left _ _ _ _ _ _ _ _ (p .point .ensures) st _ (omega (arith, room))))
+    let (b, r, st, room, more) =
+    p .before .before .before .before .before .before .before .before .before .before .before .before .pre in
+    let size = p .point .kept .1 .1 .1 .1 .1 .0 in (
+      _,
+      r,
+      p .point .ensures b r st .3,
+      rw size (room-left _ _ _ _ _ _ _ _ (p .point .ensures) st _ (omega (arith, room))),
+    )
 
 add-t36 : tie.Need-add-t36
 add-t36 c =
     let t = c .before .before .before .before .before in
     let p = t .before .before .before .before .before .before .before .before .before .before .before .before .before .before .before in
-    let (b, r, st, room, more) = p .before .before .before .before .before .before .before .before .before .before .before .before .pre in
+    let (b, r, st, room, more) =
+    p .before .before .before .before .before .before .before .before .before .before .before .before .pre in
     let one = point-few _ _ _ _ _ _ _ _ (p .point .ensures) st in
     record { fits = omega (arith, one, point-few _ _ _ _ _ _ _ _ (t .point2 .ensures) (p .point .ensures b r st .3)) }
 

@@ -36,7 +36,8 @@ returns c =
     let q = c .before .before in
     let p = q .before .before .before .before in
     let f = p .before .before in
-    segment-one _ _ _ _ _ _ _ (rw (f .sells-first .ensures, f .before .before .falls-to .ensures) at (p .point .ensures))
+    segment-one _ _ _ _ _ _ _
+    (rw (f .sells-first .ensures, f .before .before .falls-to .ensures) at (p .point .ensures))
     (sym (c .enum-told .given .1) ∙ q .second-point .ensures)
 
 sells-first-requires-2 : tie.Need-sells-first-requires-2
@@ -45,8 +46,13 @@ sells-first-requires-2 c κs = search needs
 point-requires-2 : tie.Need-point-requires-2
 point-requires-2 c κs =
     let p = c .before .before .before .before .before .before .before .before .before .before in
-    let (b, r, st, room) = p .before .before .before .before .before .before .before .before .pre in
-    (_, r, p .point .ensures b r st .3, rw (p .point .kept .1 .1 .1 .1 .1 .0) (room-left _ _ _ _ _ _ _ _ (p .point .ensures) st _ room))
+    let (b, r, st, room) = p .before .before .before .before .before .before .before .before .pre in (
+      _,
+      r,
+      p .point .ensures b r st .3,
+      rw (p .point .kept .1 .1 .1 .1 .1 .0)
+          (room-left _ _ _ _ _ _ _ _ (p .point .ensures) st _ room),
+    )
 
 add-t26 : tie.Need-add-t26
 add-t26 c =
@@ -71,7 +77,8 @@ returns-2 c =
     let p = q .before .before .before .before in
     let f = p .before .before in
     let falls = f .before .before .falls-to .ensures in
-    segment-two _ _ _ _ _ _ _ (rw (f .sells-first .ensures, falls) at (p .point .ensures)) _ (sym (e .end .given .1) ∙ q .second-point .ensures) _ _ _
+    segment-two _ _ _ _ _ _ _ (rw (f .sells-first .ensures, falls) at (p .point .ensures)) _
+    (sym (e .end .given .1) ∙ q .second-point .ensures) _ _ _
     (rw (g .sells-first2 .ensures, falls) at (t .point2 .ensures))
 
 pub segment-points-spec : {M : Type 1} → statement M

@@ -1,4 +1,5 @@
--- `sha1::hash` meets its contract. The invariant: s is the hash value after i blocks. The measure is what is left of the blocks.
+-- `sha1::hash` meets its contract. The invariant: s is the hash value after i blocks. The measure is what is left of
+-- the blocks.
 use Prim.Native.Nat.{_≤_, _-_, _/_}
 use mathlib.Core.List.{_++_}
 use mathlib.Core.Path.{_≡_, ap, _∙_}
@@ -50,7 +51,8 @@ unfolding hash
 returns c =
     let a = c .before .before .before .before .before .args in
     let m = a .head .now ++ a .tail .now in
-    let e : c .before .loop .i ≡ length (pad m) / 64 = omega (arith, pad-blocks m, length-append (a .head .now) (a .tail .now)) in
+    let e : c .before .loop .i ≡ length (pad m) / 64 =
+    omega (arith, pad-blocks m, length-append (a .head .now) (a .tail .now)) in
     c .before .loop .inv .1 ∙ ap (blocks (pad m)) e
 
 pub hash-spec : {M : Type 1} → statement M

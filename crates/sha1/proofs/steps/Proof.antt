@@ -11,7 +11,8 @@ returns c =
     let third = c .before in
     let second = third .before in
     let first = second .before in
-    c .steps-to4 .ensures _ (third .steps-to3 .ensures _ (second .steps-to2 .ensures _ (first .steps-to .ensures _ refl)))
+    c .steps-to4 .ensures _
+    (third .steps-to3 .ensures _ (second .steps-to2 .ensures _ (first .steps-to .ensures _ refl)))
 
 pub steps-spec : {M : Type 1} → statement M
 steps-spec =

@@ -1,4 +1,5 @@
--- `sha1::steps_to` meets its contract. The invariant: r is the state after t steps. The measure is what is left of them.
+-- `sha1::steps_to` meets its contract. The invariant: r is the state after t steps. The measure is what is left of
+-- them.
 use Prim.Native.Nat.{_≤_, _-_}
 use mathlib.Core.Path.{_≡_, ap, _∙_}
 use native.Mathlib.Omega.{arith}
@@ -34,7 +35,11 @@ loop-less : tie.Need-loop-less Inv-loop μ-loop
 loop-less c = omega arith
 
 loop-again : tie.Need-loop-again Inv-loop μ-loop
-loop-again c = (omega arith, λ q e. steps-turn _ _ _ _ _ (c .before .before .before .loop .inv .1 q e) (c .step .ensures))
+loop-again c = (
+  omega arith,
+  λ q e. steps-turn _ _ _ _ _ (c .before .before .before .loop .inv .1 q e)
+      (c .step .ensures),
+)
 
 returns : tie.Need-returns Inv-loop μ-loop
 returns c =

@@ -12,19 +12,23 @@ returns c =
 
 returns-2 : tie.Need-returns-2
 returns-2 c =
-    let a = c .before .before .before .before .before .args in at-tail (a .head .now) (a .tail .now) (a .i) (omega arith) (omega arith)
+    let a = c .before .before .before .before .before .args in at-tail (a .head .now) (a .tail .now) (a .i)
+    (omega arith) (omega arith)
 
 returns-3 : tie.Need-returns-3
 returns-3 c =
-    let a = c .before .before .before .before .before .args in at-mark (a .head .now) (a .tail .now) (a .i) (c .if3 .taken)
+    let a = c .before .before .before .before .before .args in at-mark (a .head .now) (a .tail .now) (a .i)
+    (c .if3 .taken)
 
 returns-4 : tie.Need-returns-4
 returns-4 c =
-    let a = c .before .before .before .before .before .before .args in at-zero (a .head .now) (a .tail .now) (a .i) (omega arith) (omega arith)
+    let a = c .before .before .before .before .before .before .args in at-zero (a .head .now) (a .tail .now) (a .i)
+    (omega arith) (omega arith)
 
 returns-5 : tie.Need-returns-5
 returns-5 c =
-    let a = c .before .before .before .before .before .before .before .args in c .length-octet .ensures ∙ at-size (a .head .now) (a .tail .now) (a .i) (omega arith) (omega arith)
+    let a = c .before .before .before .before .before .before .before .args in c .length-octet .ensures
+    ∙ at-size (a .head .now) (a .tail .now) (a .i) (omega arith) (omega arith)
 
 pub padded-spec : {M : Type 1} → statement M
 padded-spec =

@@ -1,4 +1,5 @@
--- `sha1_schedule::schedule` meets its contract. The invariant: the first t words of the array are the schedule's first t. The measure is what is left of 80.
+-- `sha1_schedule::schedule` meets its contract. The invariant: the first t words of the array are the schedule's first
+-- t. The measure is what is left of 80.
 use Prim.Native.Nat.{_≤_, _-_}
 use mathlib.Core.List.{_++_}
 use mathlib.Core.Path.{_≡_, refl, sym, _∙_}
@@ -37,7 +38,12 @@ loop-less : tie.Need-loop-less Inv-loop μ-loop
 loop-less c = omega arith
 
 loop-again : tie.Need-loop-again Inv-loop μ-loop
-loop-again c = (omega arith, simp length-set (omega arith), schedule-turn _ _ _ _ _ (omega arith) (c .before .before .before .loop .inv .2) (c .next-word .ensures))
+loop-again c = (
+  omega arith,
+  simp length-set (omega arith),
+  schedule-turn _ _ _ _ _ (omega arith)
+      (c .before .before .before .loop .inv .2) (c .next-word .ensures),
+)
 
 returns : tie.Need-returns Inv-loop μ-loop
 returns c =

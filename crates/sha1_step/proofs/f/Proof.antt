@@ -14,11 +14,19 @@ returns-2 c = simp (le-ltb _ _ (c .before .if1 .left), lt-ltb _ _ (c .if2 .taken
 
 returns-3 : tie.Need-returns-3
 unfolding f
-returns-3 c = simp (le-ltb _ _ (c .before .before .if1 .left), le-ltb _ _ (c .before .if2 .left), lt-ltb _ _ (c .if3 .taken))
+returns-3 c = simp (
+  le-ltb _ _ (c .before .before .if1 .left),
+  le-ltb _ _ (c .before .if2 .left),
+  lt-ltb _ _ (c .if3 .taken),
+)
 
 returns-4 : tie.Need-returns-4
 unfolding f
-returns-4 c = simp (le-ltb _ _ (c .before .before .if1 .left), le-ltb _ _ (c .before .if2 .left), le-ltb _ _ (c .if3 .left))
+returns-4 c = simp (
+  le-ltb _ _ (c .before .before .if1 .left),
+  le-ltb _ _ (c .before .if2 .left),
+  le-ltb _ _ (c .if3 .left),
+)
 
 pub f-spec : {M : Type 1} → statement M
 f-spec = tie.close (tie.spec returns returns-2 returns-3 returns-4)

@@ -21,7 +21,10 @@ returns-2 c = rw (c .before .before .before .before .from .given .1, eq-eqb _ _ 
 
 returns-3 : tie.Need-returns-3
 unfolding sellsFirst
-returns-3 c = rw (c .before .before .before .before .before .before .from .given .1, ne-eqb _ _ (c .before .before .if1 .left))
+returns-3 c = rw (
+  c .before .before .before .before .before .before .from .given .1,
+  ne-eqb _ _ (c .before .before .if1 .left),
+)
 
 pub sells-first-spec : {M : Type 1} → statement M
 sells-first-spec = tie.close (tie.spec enum-known-from enum-told returns returns-2 returns-3)

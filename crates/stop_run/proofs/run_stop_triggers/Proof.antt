@@ -1,4 +1,5 @@
--- `stop_run::run_stop_triggers` meets its contract: refused by a question, idle, or the pass over the segment that it takes.
+-- `stop_run::run_stop_triggers` meets its contract: refused by a question, idle, or the pass over the segment that it
+-- takes.
 use native.Mathlib.Omega.{arith}
 use mathlib.Core.Path.{sym, ap}
 use Rattle.error.proofs.Verdicts.{all-yes, one-no}
@@ -77,7 +78,8 @@ returns-3 c =
     let n = t .before .before .before in
     let e = n .before .before in
     let h = all-yes _ _ (e .enum-told .given .1) (e .before .before .ask-pass .ensures) in
-    run-taken _ _ _ _ _ _ h _ (n .next-segment .ensures) _ (ap toldNext (t .before .next .given .1)) _ _ _ _ (o .pass-over .ensures) (c .closed .ensures)
+    run-taken _ _ _ _ _ _ h _ (n .next-segment .ensures) _ (ap toldNext (t .before .next .given .1)) _ _ _ _
+    (o .pass-over .ensures) (c .closed .ensures)
 
 pub run-stop-triggers-spec : {M : Type 1} → statement M
 run-stop-triggers-spec =

@@ -13,7 +13,8 @@ use Rattle.store_calls.proofs.cancel_pending_stop.Tie as tie
 
 returns : tie.Need-returns
 unfolding toldStop
-returns c = cancel-refused-as _ _ 1 (cancel-unformed _ _ (sym (c .before .well-formed .ensures) ∙ not-true _ (c .if1 .taken)))
+returns c = cancel-refused-as _ _ 1
+    (cancel-unformed _ _ (sym (c .before .well-formed .ensures) ∙ not-true _ (c .if1 .taken)))
 
 slice-read-n : tie.Need-slice-read-n
 slice-read-n c =
@@ -31,7 +32,8 @@ unfolding toldStop
 returns-2 c =
     let b = c .before .before .before .before in
     cancel-refused-as _ _ 12
-    (cancel-missing _ _ (sym (b .before .well-formed .ensures) ∙ not-false _ (b .if1 .left)) (missing _ _ _ (c .before .find-id .ensures) (c .if2 .taken)))
+    (cancel-missing _ _ (sym (b .before .well-formed .ensures) ∙ not-false _ (b .if1 .left))
+    (missing _ _ _ (c .before .find-id .ensures) (c .if2 .taken)))
 
 entry-at-requires : tie.Need-entry-at-requires
 entry-at-requires c κs =

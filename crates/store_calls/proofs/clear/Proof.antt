@@ -20,7 +20,11 @@ unfolding toldLayout
 returns c = clear-unformed _ _ (sym (c .before .well-formed .ensures) ∙ not-true _ (c .if1 .taken))
 
 slice-read-n : tie.Need-slice-read-n
-slice-read-n c = omega (arith, wellFormed-room _ (sym (c .before .before .well-formed .ensures) ∙ not-false _ (c .before .if1 .left)) .room)
+slice-read-n c = omega (
+  arith,
+  wellFormed-room _
+      (sym (c .before .before .well-formed .ensures) ∙ not-false _ (c .before .if1 .left)) .room,
+)
 
 slice-read-tick : tie.Need-slice-read-tick
 slice-read-tick c =
@@ -44,7 +48,8 @@ unfolding toldLayout
 returns-2 c =
     let o = c .before .before .before in
     let b = o .before .before .before .before in
-    clear-done _ _ _ _ (sym (b .before .well-formed .ensures) ∙ not-false _ (b .if1 .left)) (o .lay-out .ensures) (c .closed .ensures)
+    clear-done _ _ _ _ (sym (b .before .well-formed .ensures) ∙ not-false _ (b .if1 .left)) (o .lay-out .ensures)
+    (c .closed .ensures)
 
 pub clear-spec : {M : Type 1} → statement M
 clear-spec =

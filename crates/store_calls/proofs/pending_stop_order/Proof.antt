@@ -28,7 +28,8 @@ returns-2 : tie.Need-returns-2
 unfolding toldFind
 returns-2 c =
     let b = c .before .before .before in
-    find-missing _ _ (sym (b .before .well-formed .ensures) ∙ not-false _ (b .if1 .left)) (missing _ _ _ (c .before .find-id .ensures) (c .if2 .taken))
+    find-missing _ _ (sym (b .before .well-formed .ensures) ∙ not-false _ (b .if1 .left))
+    (missing _ _ _ (c .before .find-id .ensures) (c .if2 .taken))
 
 entry-at-requires : tie.Need-entry-at-requires
 entry-at-requires c κs =

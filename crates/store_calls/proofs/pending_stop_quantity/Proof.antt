@@ -17,16 +17,23 @@ unfolding toldQuantity
 returns c = quantity-unformed _ (sym (c .before .well-formed .ensures) ∙ not-true _ (c .if1 .taken))
 
 shared-slice-read-n : tie.Need-shared-slice-read-n
-shared-slice-read-n c = omega (arith, wellFormed-room _ (sym (c .before .before .well-formed .ensures) ∙ not-false _ (c .before .if1 .left)) .room)
+shared-slice-read-n c =
+    omega (
+      arith,
+      wellFormed-room _
+          (sym (c .before .before .well-formed .ensures) ∙ not-false _ (c .before .if1 .left)) .room,
+    )
 
 pending-quantity-requires : tie.Need-pending-quantity-requires
-pending-quantity-requires c κs = wellFormed-room _ (sym (c .before .before .well-formed .ensures) ∙ not-false _ (c .before .if1 .left))
+pending-quantity-requires c κs =
+    wellFormed-room _ (sym (c .before .before .well-formed .ensures) ∙ not-false _ (c .before .if1 .left))
 
 returns-2 : tie.Need-returns-2
 unfolding toldQuantity
 returns-2 c =
     let b = c .before .before in
-    quantity-done _ _ (sym (b .before .well-formed .ensures) ∙ not-false _ (b .if1 .left)) (c .pending-quantity .ensures)
+    quantity-done _ _ (sym (b .before .well-formed .ensures) ∙ not-false _ (b .if1 .left))
+    (c .pending-quantity .ensures)
 
 pub pending-stop-quantity-spec : {M : Type 1} → statement M
 pending-stop-quantity-spec =

@@ -18,7 +18,8 @@ returns : tie.Need-returns
 returns c =
     let d = c .before .before in
     let (ch, s, o) = d .before .before .before .before .before .pre in
-    let told = put-into _ _ _ _ _ _ _ (d .before .before .before .link-of .ensures) (d .before .before .head-of .ensures) _ in
+    let told = put-into _ _ _ _ _ _ _ (d .before .before .before .link-of .ensures)
+    (d .before .before .head-of .ensures) _ in
     (told ch s o (d .link-in .ensures) .0, λ ch s o. told ch s o (d .link-in .ensures) .1)
 
 pub put-in-spec : {M : Type 1} → statement M

@@ -36,7 +36,8 @@ next-free-requires : tie.Need-next-free-requires Inv-loop μ-loop
 next-free-requires c κs = c .before .loop .inv .least
 
 write-free-requires : tie.Need-write-free-requires Inv-loop μ-loop
-write-free-requires c κs = let b = c .before .before in laid-record _ _ _ _ _ (b .before .loop .inv) (b .loop-test .taken)
+write-free-requires c κs = let b =
+    c .before .before in laid-record _ _ _ _ _ (b .before .loop .inv) (b .loop-test .taken)
 
 add-i : tie.Need-add-i Inv-loop μ-loop
 add-i c =
@@ -51,7 +52,8 @@ loop-less c =
 loop-again : tie.Need-loop-again Inv-loop μ-loop
 loop-again c =
     let b = c .before .before .before .before .before in
-    laid-more _ _ _ _ _ (b .before .loop .inv) _ _ (b .loop-test .taken) (c .before .before .before .before .next-free .ensures)
+    laid-more _ _ _ _ _ (b .before .loop .inv) _ _ (b .loop-test .taken)
+    (c .before .before .before .before .next-free .ensures)
     (c .before .before .write-free .ensures)
 
 same-length : tie.Need-same-length Inv-loop μ-loop
@@ -61,7 +63,8 @@ returns : tie.Need-returns Inv-loop μ-loop
 returns c =
     let b = c .before .before .before .before in
     let h = b .before .before in
-    laid-all _ _ _ _ _ (c .before .loop .inv) _ (h .before .before .before .pre .1) (rw (h .empty-header .ensures) at (b .put-words .ensures))
+    laid-all _ _ _ _ _ (c .before .loop .inv) _ (h .before .before .before .pre .1)
+    (rw (h .empty-header .ensures) at (b .put-words .ensures))
     (c .loop-test .left)
 
 pub lay-out-spec : {M : Type 1} → statement M

@@ -12,13 +12,15 @@ unfolding toldLayout
 returns c = layOut-no _ _ _ (sym (c .before .has-room .ensures) ∙ not-true _ (c .if1 .taken))
 
 lay-out-requires : tie.Need-lay-out-requires
-lay-out-requires c κs = inRange-room _ _ (sym (c .before .before .has-room .ensures) ∙ not-false _ (c .before .if1 .left))
+lay-out-requires c κs =
+    inRange-room _ _ (sym (c .before .before .has-room .ensures) ∙ not-false _ (c .before .if1 .left))
 
 returns-2 : tie.Need-returns-2
 unfolding toldLayout
 returns-2 c =
     let b = c .before .before .before .before in
-    layOut-yes _ _ _ _ (sym (b .before .has-room .ensures) ∙ not-false _ (b .if1 .left)) (c .before .before .lay-out .ensures)
+    layOut-yes _ _ _ _ (sym (b .before .has-room .ensures) ∙ not-false _ (b .if1 .left))
+    (c .before .before .lay-out .ensures)
 
 pub layout-store-spec : {M : Type 1} → statement M
 layout-store-spec =

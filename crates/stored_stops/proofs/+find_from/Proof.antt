@@ -1,4 +1,5 @@
--- The proof of the cycle of calls {find_from}. The measure is `left`: the records that are left of the chain are no more.
+-- The proof of the cycle of calls {find_from}. The measure is `left`: the records that are left of the chain are no
+-- more.
 use Prim.Native.Nat.{ℕ, _<_}
 use mathlib.Core.Path.{sym, ap, _∙_}
 use native.Mathlib.Omega.{arith}
@@ -50,7 +51,8 @@ unfolding recordWord
     (λ c p l e h.
     let b = c .before .before .before in
     let f = linked-from _ _ nextByStop p _ l e (b .if1 .left) h in
-    rw (f .is) (sym (firstNamed-here _ _ _ (f .rest) (rw (c .before .before .id-at .ensures) at (sym (c .before .eq .ensures) ∙ c .if2 .taken)))))
+    rw (f .is) (sym (firstNamed-here _ _ _ (f .rest)
+    (rw (c .before .before .id-at .ensures) at (sym (c .before .eq .ensures) ∙ c .if2 .taken)))))
     (λ c κs.
     let b = c .before .before .before in
     let (p, l, e, h, short) = b .before .before .pre .1 .1 in
@@ -66,10 +68,15 @@ unfolding recordWord
     let (p, l, e, h, short) = b .before .before .pre .1 .1 in
     let f = linked-from _ _ nextByStop p _ l e (b .if1 .left) h in (
       omega (arith, ap length (f .is), b .before .before .pre .0),
-      (b .before .before .pre .1 .0, (cell _ nextByStop, f .rest, sym (c .word .ensures), f .linked, omega (arith, ap length (f .is)))),
+      (
+        b .before .before .pre .1 .0,
+        (cell _ nextByStop, f .rest, sym (c .word .ensures), f .linked, omega (arith, ap length (f .is))),
+      ),
     ))
     (λ c p l e h.
     let b = c .before .before .before .before .before in
     let f = linked-from _ _ nextByStop p _ l e (b .if1 .left) h in
     rw (f .is) (c .find-from .ensures (cell _ nextByStop) (f .rest) (sym (c .before .word .ensures)) (f .linked)
-    ∙ sym (firstNamed-later _ _ _ (f .rest) (rw (c .before .before .before .before .id-at .ensures) at (sym (c .before .before .before .eq .ensures) ∙ c .before .before .if2 .left)))))
+    ∙ sym (firstNamed-later _ _ _ (f .rest)
+    (rw (c .before .before .before .before .id-at .ensures) at
+    (sym (c .before .before .before .eq .ensures) ∙ c .before .before .if2 .left)))))

@@ -7,10 +7,12 @@ use Rattle.stored_stops.proofs.find_id.Statement.{statement}
 use Rattle.stored_stops.proofs.find_id.Tie as tie
 
 shared-slice-read-sell : tie.Need-shared-slice-read-sell
-shared-slice-read-sell c = let (e, q) = c .before .before .before .pre in stop-head _ e _ q Sell _ (c .before .head-of .ensures)
+shared-slice-read-sell c = let (e, q) =
+    c .before .before .before .pre in stop-head _ e _ q Sell _ (c .before .head-of .ensures)
 
 find-from-requires : tie.Need-find-from-requires
-find-from-requires c κs = let (e, q) = c .before .before .before .pre in stop-search _ e _ q Sell _ (c .before .head-of .ensures)
+find-from-requires c κs = let (e, q) =
+    c .before .before .before .pre in stop-search _ e _ q Sell _ (c .before .head-of .ensures)
 
 returns : tie.Need-returns
 returns c =

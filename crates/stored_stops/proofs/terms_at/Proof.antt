@@ -8,7 +8,13 @@ returns : tie.Need-returns
 unfolding entryAt
 returns c =
     let b = c .before .before in
-    rw (b .before .side-from .ensures, b .before .before .word .ensures, b .word2 .ensures, c .before .word3 .ensures, c .word4 .ensures)
+    rw (
+      b .before .side-from .ensures,
+      b .before .before .word .ensures,
+      b .word2 .ensures,
+      c .before .word3 .ensures,
+      c .word4 .ensures,
+    )
 
 pub terms-at-spec : {M : Type 1} → statement M
 terms-at-spec =

@@ -15,12 +15,14 @@ terms-at-requires c κs = c .before .before .before .pre .named (omega (arith, c
 returns-2 : tie.Need-returns-2
 returns-2 c =
     let d = c .before .before .before in
-    sym (ifBehind-some _ _ _ _ (d .before .if1 .left) (rw (← d .terms-at .ensures) (sym (c .before .is-behind .ensures) ∙ c .if2 .taken)))
+    sym (ifBehind-some _ _ _ _ (d .before .if1 .left)
+    (rw (← d .terms-at .ensures) (sym (c .before .is-behind .ensures) ∙ c .if2 .taken)))
 
 returns-3 : tie.Need-returns-3
 returns-3 c =
     let d = c .before .before .before in
-    sym (ifBehind-not _ _ _ _ (d .before .if1 .left) (rw (← d .terms-at .ensures) (sym (c .before .is-behind .ensures) ∙ c .if2 .left)))
+    sym (ifBehind-not _ _ _ _ (d .before .if1 .left)
+    (rw (← d .terms-at .ensures) (sym (c .before .is-behind .ensures) ∙ c .if2 .left)))
 
 pub next-behind-spec : {M : Type 1} → statement M
 next-behind-spec =

@@ -16,7 +16,8 @@ next-behind-requires c κs =
 returns : tie.Need-returns
 returns c =
     let k = c .before in
-    λ b r st. idle-stored _ _ b r _ _ st _ (k .before .before .head-of .ensures) _ (k .next-behind .ensures) (c .if1 .taken)
+    λ b r st. idle-stored _ _ b r _ _ st _ (k .before .before .head-of .ensures) _ (k .next-behind .ensures)
+    (c .if1 .taken)
 
 resort-requires : tie.Need-resort-requires
 resort-requires c κs =

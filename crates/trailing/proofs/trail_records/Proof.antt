@@ -32,8 +32,10 @@ returns c =
     let z = c .before .before in
     let k = z .before in
     let v = k .before .before .loop .inv in
-    let told = k .next-behind .ensures in
-    (turn-ends _ _ _ _ _ _ _ _ _ _ v _ told (z .if1 .taken), turn-sorted _ _ _ _ _ _ _ _ _ _ v _ told (z .if1 .taken) _ (c .ends-in-order .ensures))
+    let told = k .next-behind .ensures in (
+      turn-ends _ _ _ _ _ _ _ _ _ _ v _ told (z .if1 .taken),
+      turn-sorted _ _ _ _ _ _ _ _ _ _ v _ told (z .if1 .taken) _ (c .ends-in-order .ensures),
+    )
 
 trail-record-requires : tie.Need-trail-record-requires Inv-loop μ-loop
 trail-record-requires c κs =
@@ -69,14 +71,16 @@ rank-of-requires c κs =
     let v = a .loop .inv in
     let told = e .before .next-behind .ensures in
     let some = turn-left _ _ _ _ _ _ _ _ _ _ v _ told (e .if1 .left) b r st in
-    turn-written _ _ _ _ _ _ _ _ _ _ v _ told (e .if1 .left) _ (t .trail-record .ensures .0) some _ (t .trail-record .ensures .1) b r st
+    turn-written _ _ _ _ _ _ _ _ _ _ v _ told (e .if1 .left) _ (t .trail-record .ensures .0) some _
+    (t .trail-record .ensures .1) b r st
 
 cell-requires : tie.Need-cell-requires Inv-loop μ-loop
 cell-requires c κs =
     let e = c .before .before .before .before .before .before .before in
     let a = e .before .before .before in
     let (b, r, st) = a .before .before .before .before .pre in
-    record-cell _ _ (ByWatermark (a .before .before .before .before .args .side)) _ _ (a .before .before .link-of .ensures)
+    record-cell _ _ (ByWatermark (a .before .before .before .before .args .side)) _ _
+    (a .before .before .link-of .ensures)
     (turn-record _ _ _ _ _ _ _ _ _ _ (a .loop .inv) _ (e .before .next-behind .ensures) (e .if1 .left) b r st)
 
 sub-left : tie.Need-sub-left Inv-loop μ-loop
@@ -96,8 +100,10 @@ loop-again c =
     let t = k .before .before .before .before in
     let e = t .before .before in
     let a = e .before .before .before in
-    turn-on _ _ _ _ _ _ _ _ _ _ (a .loop .inv) _ (e .before .next-behind .ensures) (e .if1 .left) _ (t .trail-record .ensures .0) (sub-left c)
-    _ (t .trail-record .ensures .1) _ (rw (← a .before .before .link-of .ensures) (c .cell .ensures .0)) _ (k .rank-of .ensures)
+    turn-on _ _ _ _ _ _ _ _ _ _ (a .loop .inv) _ (e .before .next-behind .ensures)
+    (e .if1 .left) _ (t .trail-record .ensures .0) (sub-left c)
+    _ (t .trail-record .ensures .1) _ (rw (← a .before .before .link-of .ensures) (c .cell .ensures .0)) _
+    (k .rank-of .ensures)
     _ (o .still-in-order .ensures)
 
 pub trail-records-spec : {M : Type 1} → statement M

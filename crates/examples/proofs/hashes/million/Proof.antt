@@ -13,4 +13,5 @@ slice-aggregate-digest-2 : tie.Need-slice-aggregate-digest-2
 slice-aggregate-digest-2 c = sym (length-replicate {0} {A = ℕ} 1000000 97)
 
 pub million-spec : {M : Type 1} → statement M
-million-spec = tie.close (tie.spec slice-aggregate-digest slice-aggregate-digest-2 (λ c κs. search needs) (λ c. search needs))
+million-spec = tie.close
+    (tie.spec slice-aggregate-digest slice-aggregate-digest-2 (λ c κs. search needs) (λ c. search needs))

@@ -1,4 +1,5 @@
--- `examples::print::octets` meets its contract. The invariant: i is at most the length. The measure is what is left of it.
+-- `examples::print::octets` meets its contract. The invariant: i is at most the length. The measure is what is left of
+-- it.
 use Prim.Native.Nat.{_≤_, _-_}
 use native.Mathlib.Omega.{arith}
 use borrow.Author.Needs.{needs}

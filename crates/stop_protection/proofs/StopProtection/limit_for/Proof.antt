@@ -1,4 +1,5 @@
--- `stop_protection::StopProtection::limit_for` meets its contract: each way out knows the side and the test that led there.
+-- `stop_protection::StopProtection::limit_for` meets its contract: each way out knows the side and the test that led
+-- there.
 use native.Mathlib.Omega.{arith}
 use borrow.Author.Needs.{needs}
 use Rattle.stop_protection.specs.Collar.{limitFor}

@@ -12,7 +12,8 @@ returns c = sym (trailedAt-still _ _ (sym (c .before .is-behind .ensures) ∙ no
 returns-2 : tie.Need-returns-2
 returns-2 c =
     let b = c .before .before .before in
-    trailedAt-moved _ _ _ _ (sym (b .before .is-behind .ensures) ∙ not-false _ (b .if1 .left)) (c .before .candidate-at .ensures) (c .tighten .ensures)
+    trailedAt-moved _ _ _ _ (sym (b .before .is-behind .ensures) ∙ not-false _ (b .if1 .left))
+    (c .before .candidate-at .ensures) (c .tighten .ensures)
 
 pub trailed-spec : {M : Type 1} → statement M
 trailed-spec =
