@@ -31,7 +31,7 @@ last-word x [] = refl
 last-word x (y ∷ xs) = last-word y xs
 
 module _ (s : Settings) (prev : LastPrice) (w : List ℕ) (elected moved : List (List ℕ)) where
-  abbrev outcome : List ℕ → SegmentOutcome
+  abbrev pub outcome : List ℕ → SegmentOutcome
   outcome ps = endsCall s prev (map toPrice ps) w (length elected) (length moved)
 
   -- a call answers, and leaves of store and lists
@@ -45,7 +45,7 @@ module _ (s : Settings) (prev : LastPrice) (w : List ℕ) (elected moved : List 
   without-price [] e = (refl, (refl, (refl, refl)))
   without-price (x ∷ xs) e = absurd (omega (arith, e))
 
-  abbrev between : List ℕ → SegmentOutcome
+  abbrev pub between : List ℕ → SegmentOutcome
   between ps =
       segmentCall s (record {
         prev = prev;
@@ -53,7 +53,7 @@ module _ (s : Settings) (prev : LastPrice) (w : List ℕ) (elected moved : List 
         last = toPrice (getD ps (length ps - 1) 0);
       }) w (length elected) (length moved)
 
-  between-ends : (ps : List ℕ) → (length ps ≡ 0 → ⊥) → between ps ≡ outcome ps
+  pub between-ends : (ps : List ℕ) → (length ps ≡ 0 → ⊥) → between ps ≡ outcome ps
   unfolding endsCall
   between-ends [] h = absurd (h refl)
   between-ends (x ∷ xs) h =

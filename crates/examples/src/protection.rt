@@ -9,8 +9,6 @@ use stop_protection::Protection;
 use stop_protection::StopProtection;
 use stop_protection::TickCheck;
 
-const TOP: u64 = 0xffff_ffff_ffff_ffff;
-
 fn refused(e: Refusal) {
     print::text(b" refused");
     print::number(e.number());
@@ -30,7 +28,7 @@ fn collar(size: u64) {
 pub fn collars() {
     collar(0);
     collar(1);
-    collar(TOP);
+    collar(u64::MAX);
 }
 
 // A size of 0 asks for no collar.
@@ -56,10 +54,10 @@ pub fn limits() {
     limit(Side::Sell, 95, 100);
     limit(Side::Sell, 95, 95);
     limit(Side::Buy, 105, 5);
-    limit(Side::Buy, TOP, 1);
-    limit(Side::Buy, TOP - 1, 1);
-    limit(Side::Buy, 1, TOP);
-    limit(Side::Buy, 0, TOP);
+    limit(Side::Buy, u64::MAX, 1);
+    limit(Side::Buy, u64::MAX - 1, 1);
+    limit(Side::Buy, 1, u64::MAX);
+    limit(Side::Buy, 0, u64::MAX);
     limit(Side::Sell, 95, 0);
     limit(Side::Buy, 105, 0);
 }

@@ -6,8 +6,6 @@ use repricing::TrailingStopPrice;
 use stop_terms::Inconsistency;
 use stop_terms::StopTerms;
 
-const TOP: u64 = 0xffff_ffff_ffff_ffff;
-
 fn terms(side: Side, stop: u64, watermark: u64, trail: u64) -> StopTerms {
     StopTerms {
         side: side,
@@ -43,12 +41,12 @@ pub fn trails() {
     trail(Side::Sell, 90, 100, 200, 105);
     trail(Side::Sell, 95, 100, 10, 101);
     trail(Side::Buy, 110, 100, 10, 95);
-    trail(Side::Buy, TOP, TOP, 10, TOP - 2);
+    trail(Side::Buy, u64::MAX, u64::MAX, 10, u64::MAX - 2);
     trail(Side::Buy, 110, 100, 10, 100);
     trail(Side::Sell, 0, 0, 1, 1);
-    trail(Side::Sell, 0, 0, TOP, TOP);
-    trail(Side::Buy, TOP, TOP, TOP, 0);
-    trail(Side::Buy, TOP, TOP, 1, TOP - 1);
+    trail(Side::Sell, 0, 0, u64::MAX, u64::MAX);
+    trail(Side::Buy, u64::MAX, u64::MAX, u64::MAX, 0);
+    trail(Side::Buy, u64::MAX, u64::MAX, 1, u64::MAX - 1);
 }
 
 fn elect(side: Side, stop: u64, price: u64) {
@@ -67,7 +65,7 @@ pub fn elections() {
     elect(Side::Buy, 105, 105);
     elect(Side::Buy, 105, 104);
     elect(Side::Sell, 0, 0);
-    elect(Side::Buy, TOP, TOP);
+    elect(Side::Buy, u64::MAX, u64::MAX);
 }
 
 fn inconsistency(side: Side, stop: u64, watermark: u64, trail: u64) {
@@ -116,6 +114,6 @@ pub fn previews() {
     preview(Side::Sell, 90, 100, 200, 105);
     preview(Side::Sell, 95, 100, 10, 101);
     preview(Side::Buy, 110, 100, 10, 95);
-    preview(Side::Buy, TOP, TOP, 10, TOP - 2);
+    preview(Side::Buy, u64::MAX, u64::MAX, 10, u64::MAX - 2);
     preview(Side::Buy, 105, 100, 10, 95);
 }

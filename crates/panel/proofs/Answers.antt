@@ -2,8 +2,8 @@
 use denote.Struct.Laws.{owes}
 use Rattle.book.specs.declared.Admission.{Admission}
 use Rattle.book.specs.declared.Cleared.{Cleared}
-use Rattle.admission.proofs.Admission as admission
-use Rattle.admission.proofs.Admission.Laws as admission′
+use Rattle.admission.proofs.AdmittedStop as admission
+use Rattle.admission.proofs.AdmittedStop.Laws as admission′
 use Rattle.admission.proofs.Cleared as cleared
 use Rattle.admission.proofs.Cleared.Laws as cleared′
 use Rattle.print_path.specs.declared.TakenSegment.{TakenSegment}

@@ -16,7 +16,7 @@ use Rattle.book.specs.declared.Settings.{Settings}
 use Rattle.listing.proofs.Sets.{sets-over}
 use Rattle.listing.specs.Entries.{fillWords, electedWords}
 use Rattle.pending_stops.specs.Stored.{Stored}
-use Rattle.points.proofs.Points.{Does}
+use Rattle.points.proofs.PointsOnWords.{Does}
 use Rattle.script.proofs.Executions.{flags-written}
 use Rattle.script.specs.Execute.{pendingWord, Flags}
 use Rattle.script.specs.Queue.{Enqueued}

@@ -1,3 +1,3 @@
 pub mod PointSteps
-pub mod Points
+pub mod PointsOnWords
 pub mod Steps

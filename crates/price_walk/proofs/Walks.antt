@@ -15,7 +15,7 @@ use Rattle.book.specs.declared.LastPrice.{LastPrice}
 use Rattle.book.specs.declared.LastPrice.the-variants as last
 use Rattle.listing.specs.Entries.{fillWords}
 use Rattle.pending_stops.specs.Stored.{Stored}
-use Rattle.points.proofs.Points.{Does, point-few, does-same, does-then}
+use Rattle.points.proofs.PointsOnWords.{Does, point-few, does-same, does-then}
 use Rattle.segments.proofs.TwoPoints.{then-none}
 use Rattle.pricelevel.specs.Price.{toPrice}
 

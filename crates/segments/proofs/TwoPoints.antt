@@ -16,7 +16,7 @@ use Rattle.book.specs.declared.LastPrice.the-variants as last
 use Rattle.book.specs.declared.PrintSegment.{PrintSegment}
 use Rattle.listing.specs.Entries.{movedWords, fillWords}
 use Rattle.pending_stops.specs.Stored.{Stored}
-use Rattle.points.proofs.Points.{Does, does-same, does-then}
+use Rattle.points.proofs.PointsOnWords.{Does, does-same, does-then}
 use Rattle.points.proofs.Steps.{run-on, ListsMoves}
 use Rattle.segments.specs.Segments.{secondPoint}
 use Rattle.segments.specs.declared.SecondPoint.{SecondPoint}

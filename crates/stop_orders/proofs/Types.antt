@@ -3,8 +3,8 @@ use mathlib.Core.Path.{refl}
 use denote.Struct.Laws.{owed}
 use Rattle.book.specs.declared.Admission.{Admission}
 use Rattle.book.specs.declared.Cleared.{Cleared}
-use Rattle.admission.proofs.Admission as admission
-use Rattle.admission.proofs.Admission.Laws as admission′
+use Rattle.admission.proofs.AdmittedStop as admission
+use Rattle.admission.proofs.AdmittedStop.Laws as admission′
 use Rattle.admission.proofs.AdmissionAnswer as admitted
 use Rattle.admission.proofs.AdmissionAnswer.Laws as admitted′
 use Rattle.admission.proofs.Cleared as cleared

@@ -1,2 +1,2 @@
 pub mod Cancel
-pub mod Clear
+pub mod ClearedStore

@@ -3,7 +3,8 @@
 // side, change and path flag is a known value (255).
 use book::ElectedWords;
 use book::MovedWords;
-ghost use mathlib.Core.List.{map};
+use error::Refusal;
+ghost use mathlib.Core.List.{map, _++_};
 ghost use mathlib.Core.Path.{_≡_};
 ghost use lib.ListN.{length};
 ghost use Rattle.book.specs.Calls.{written};
@@ -11,6 +12,9 @@ ghost use Rattle.book.specs.Store.{layOut, pendingQuantity};
 ghost use Rattle.book.specs.Words.{wellFormed};
 ghost use Rattle.listing.specs.Entries.{electedWords, movedWords};
 ghost use Rattle.stop_protection.specs.Collar.{tryNew};
+ghost use Rattle.pricelevel.specs.Price.{toPrice};
+ghost use Rattle.both_ways.specs.Ends.{Comparable};
+ghost use Rattle.yubtomiq.specs.BothWays.{endsByWords, wayWords, DecidedWords};
 ghost use Rattle.host_words.specs.Answers.{Told, number, flag, seqWords, idWords, termsWords, stopWords, segmentWords, foundWords, totalsWords, countsWords, passWords, previewWords, limitWords};
 ghost use Rattle.host_words.specs.ByWords.{admitByWords, clearByWords, cancelByWords, updateByWords, findByWords, recordByWords, takeByWords, resetByWords, segmentByWords, walkByWords, passByWords, runByWords, trailedByWords, electedByWords, inconsistencyByWords, previewByWords, limitByWords, checkOf, childByWords};
 
@@ -240,6 +244,70 @@ pub extern "C" fn yubtomiq_run_stop_triggers(
         × (now (path .exit) ≡ o .path)) ⌝ }
 {
     host_passes::run_stop_triggers(s, path, settings, script, trade, elected, answer)
+}
+
+// ---------------------------------------------------------------------
+// Both ways
+
+// A segment from a run's first price to its last. Refused as a segment is, and without a price (16).
+fn over_ends(
+    s: &mut [u64],
+    settings: &[u64; 4],
+    prev: &[u64; 2],
+    prices: &[u64],
+    elected: &mut [ElectedWords],
+    moved: &mut [MovedWords],
+    answer: &mut [u64; 2],
+) -> u64
+    ensures { λ r. ⌜ (let o = endsByWords (now (settings .entry)) (now (prev .entry)) (now (prices .entry)) (now (s .entry)) (length (now (elected .entry)))
+        (length (now (moved .entry))) in
+        Told countsWords (o .answer) (now (answer .entry)) r (now (answer .exit))
+        × (now (s .exit) ≡ o .words)
+        × (now (elected .exit) ≡ written (map electedWords (o .elected)) (now (elected .entry)))
+        × (now (moved .exit) ≡ written (map movedWords (o .moved)) (now (moved .entry)))) ⌝ }
+{
+    let count = prices.len();
+    if count == 0 {
+        return Refusal::PriceCountOutOfRange.number();
+    }
+    let prints = [prev[0], prev[1], prices[0], prices[count - 1]];
+    yubtomiq_segment(s, settings, &prints, elected, moved, answer)
+}
+
+// A run of prices evaluated on one store by a segment over its ends, and on the other by a walk. Answers number, moves
+// and elected of each; each may be refused by itself. Where the two stores are equal and well formed, the run never
+// falls or never rises and has 1 to 4,096 prices, and the lists are as long as the calls demand, neither is refused, both
+// list the same stops in the same order, alike but for their trigger prices, and the stores are equal again.
+#[no_mangle]
+pub extern "C" fn yubtomiq_evaluate_both_ways(
+    ends: &mut [u64],
+    run: &mut [u64],
+    settings: &[u64; 4],
+    prev: &[u64; 2],
+    prices: &[u64],
+    elected: &mut [ElectedWords],
+    moved: &mut [MovedWords],
+    listed: &mut [ElectedWords],
+    answer: &mut [u64; 6],
+)
+    ensures { λ _. ⌜ (Comparable (map toPrice (now (prices .entry))) (now (ends .entry)) (now (run .entry)) (length (now (elected .entry)))
+        (length (now (moved .entry))) (length (now (listed .entry)))
+        → DecidedWords (now (answer .exit)) (now (ends .exit)) (now (run .exit)) (now (elected .exit)) (now (listed .exit))) ⌝ }
+    ensures { λ _. ⌜ (let o = endsByWords (now (settings .entry)) (now (prev .entry)) (now (prices .entry)) (now (ends .entry)) (length (now (elected .entry)))
+        (length (now (moved .entry))) in
+        let p = walkByWords (now (settings .entry)) (now (prev .entry)) (now (prices .entry)) (now (run .entry)) (length (now (listed .entry))) in
+        (now (answer .exit) ≡ wayWords (o .answer) ++ wayWords (p .answer))
+        × (now (ends .exit) ≡ o .words)
+        × (now (elected .exit) ≡ written (map electedWords (o .elected)) (now (elected .entry)))
+        × (now (moved .exit) ≡ written (map movedWords (o .moved)) (now (moved .entry)))
+        × (now (run .exit) ≡ p .words)
+        × (now (listed .exit) ≡ written (map electedWords (p .elected)) (now (listed .entry)))) ⌝ }
+{
+    let mut first = [0u64; 2];
+    let mut second = [0u64; 2];
+    let number = over_ends(ends, settings, prev, prices, elected, moved, &mut first);
+    let walked = yubtomiq_walk(run, settings, prev, prices, listed, &mut second);
+    *answer = [number, first[0], first[1], walked, second[0], second[1]];
 }
 
 // ---------------------------------------------------------------------

@@ -7,7 +7,7 @@ use Rattle.book.specs.Words.{bookOf}
 use Rattle.pending_stops.proofs.Found.{beyond, wellFormed-stored}
 use Rattle.store_words.proofs.ChainsOf.{wellFormed-room}
 use Rattle.book.specs.Answers.{toldAdmission}
-use Rattle.admission.proofs.Admission.{admit-refused, admit-done}
+use Rattle.admission.proofs.AdmittedStop.{admit-refused, admit-done}
 use borrow.Author.Needs.{needs}
 use Rattle.admission.proofs.admit_trailing_stop.Statement.{statement}
 use Rattle.admission.proofs.admit_trailing_stop.Tie as tie

@@ -9,7 +9,7 @@ use Rattle.pending_stops.proofs.Found.{beyond, wellFormed-stored, missing, foun
 use Rattle.store_words.proofs.ChainsOf.{wellFormed-room}
 use Rattle.book.specs.Answers.{toldStop}
 use Rattle.admission.proofs.AdmissionQuestions.{next-word}
-use Rattle.changes.proofs.Changes.{outcome-parts, update-cancels, update-unformed, update-missing, update-refused, replaced-valid, replaced-fits, update-done}
+use Rattle.changes.proofs.ChangedStop.{outcome-parts, update-cancels, update-unformed, update-missing, update-refused, replaced-valid, replaced-fits, update-done}
 use borrow.Author.Needs.{needs}
 use Rattle.changes.proofs.update_pending_stop.Statement.{statement}
 use Rattle.changes.proofs.update_pending_stop.Tie as tie

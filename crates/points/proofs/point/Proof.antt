@@ -1,5 +1,5 @@
 -- `points::point` meets its contract.
-use Rattle.points.proofs.Points.{point-killed, elected-room, point-done}
+use Rattle.points.proofs.PointsOnWords.{point-killed, elected-room, point-done}
 use borrow.Author.Needs.{needs}
 use Rattle.points.proofs.point.Statement.{statement}
 use Rattle.points.proofs.point.Tie as tie

@@ -1,7 +1,7 @@
 -- `segments::segment_points` meets its contract.
 use mathlib.Core.Path.{sym, _∙_}
 use native.Mathlib.Omega.{arith}
-use Rattle.points.proofs.Points.{room-left, point-few}
+use Rattle.points.proofs.PointsOnWords.{room-left, point-few}
 use Rattle.segments.proofs.TwoPoints.{segment-one, segment-two}
 use borrow.Author.Needs.{needs}
 use Rattle.segments.proofs.segment_points.Statement.{statement}

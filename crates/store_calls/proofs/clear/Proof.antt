@@ -4,7 +4,7 @@ use native.Mathlib.Omega.{arith}
 use borrow.Author.Tests.{not-true, not-false}
 use Rattle.store_words.proofs.ChainsOf.{wellFormed-room}
 use Rattle.book.specs.Answers.{toldLayout}
-use Rattle.store_calls.proofs.Clear.{some-records, clear-unformed, clear-done}
+use Rattle.store_calls.proofs.ClearedStore.{some-records, clear-unformed, clear-done}
 use borrow.Author.Needs.{needs}
 use Rattle.store_calls.proofs.clear.Statement.{statement}
 use Rattle.store_calls.proofs.clear.Tie as tie

@@ -4,7 +4,7 @@ use native.Mathlib.Omega.{arith}
 use borrow.Author.Tests.{not-true, not-false}
 use Rattle.store_words.proofs.ChainsOf.{wellFormed-room}
 use Rattle.book.specs.Answers.{toldQuantity}
-use Rattle.store_calls.proofs.Clear.{quantity-unformed, quantity-done}
+use Rattle.store_calls.proofs.ClearedStore.{quantity-unformed, quantity-done}
 use borrow.Author.Needs.{needs}
 use Rattle.store_calls.proofs.pending_stop_quantity.Statement.{statement}
 use Rattle.store_calls.proofs.pending_stop_quantity.Tie as tie

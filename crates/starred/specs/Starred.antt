@@ -6,6 +6,7 @@ use mathlib.Core.Path.{_≡_, refl}
 use Rattle.book.specs.Evaluation.{sellsFirst, fallsTo}
 use Rattle.book.specs.declared.LastPrice.{LastPrice}
 use Rattle.book.specs.declared.LastPrice.the-variants as last
+use Rattle.pricelevel.specs.Price.{toPrice}
 use Rattle.pricelevel.specs.declared.Side.{Side}
 use Rattle.pricelevel.specs.declared.Side.the-variants.{Buy, Sell}
 use Rattle.stop_protection.specs.Collar.{limitFor}
@@ -16,8 +17,8 @@ use Rattle.stop_terms.specs.declared.StopTerms.{StopTerms}
 unfoldable pub terms : Side → ℕ → ℕ → ℕ → StopTerms
 terms side stop watermark trail = record {
   side = side;
-  stop = record { 0 = stop };
-  watermark = record { 0 = watermark };
+  stop = toPrice stop;
+  watermark = toPrice watermark;
   trail = trail;
 }
 
@@ -34,14 +35,11 @@ pub data Question : Type 0 where
   sellsLead : LastPrice → ℕ → ℕ → Question
 
 unfoldable pub answer : Question → List ℕ
-answer (trailed t price) = trailedAt t (record {
-  0 = price;
-}) .stop .0 ∷ trailedAt t (record { 0 = price }) .watermark .0 ∷ []
-answer (elected t price) = number (electedAt t (record { 0 = price })) ∷ []
+answer (trailed t price) = trailedAt t (toPrice price) .stop .0 ∷ trailedAt t (toPrice price) .watermark .0 ∷ []
+answer (elected t price) = number (electedAt t (toPrice price)) ∷ []
 answer (limit side stop collar) = limitFor collar side stop ∷ []
-answer (sellsLead prev first last) = number (sellsFirst (fallsTo (record {
-  0 = first;
-}) (record { 0 = last })) prev (record { 0 = first })) ∷ []
+answer (sellsLead prev first last) =
+    number (sellsFirst (fallsTo (toPrice first) (toPrice last)) prev (toPrice first)) ∷ []
 
 pub record Example : Type 0 where
   pub question : Question
