@@ -13,6 +13,9 @@
  * - what a call is lent to write (every pointer that is not const) overlaps nothing else that the same call is passed;
  * - no other thread uses what a call is lent to write while the call runs, or writes what it reads.
  * The words themselves may be any: a damaged store is refused.
+ *
+ * The stack: no call allocates, and none needs more than YUBTOMIQ_STACK_BYTES of stack, at its worst a pass over 700 stops whose children's
+ * identities are searched in a full store. The proofs do not speak of the stack; tests/test.c runs that worst case on a thread that has no more.
  */
 #ifndef YUBTOMIQ_H
 #define YUBTOMIQ_H
@@ -59,6 +62,9 @@ enum yubtomiq_change {
 /* A store of n records is n * 11 + 9 words, or more; those beyond are not touched. */
 #define YUBTOMIQ_MOST_RECORDS 700
 #define YUBTOMIQ_STORE_WORDS(n) (9 + 11 * (size_t)(n))
+
+/* Stack that is enough for any call. */
+#define YUBTOMIQ_STACK_BYTES (128 * 1024)
 
 /*
  * The structures are words, in the order of the fields. Of a flag in an argument any value but 0 is "yes", but for those of a path
@@ -125,6 +131,14 @@ typedef struct yubtomiq_totals {
 typedef struct yubtomiq_counts {
     uint64_t moves, elected;
 } yubtomiq_counts;
+
+/* What a run of prices gives both ways: of each the number, and the counts, which are 0 where it was refused. */
+typedef struct yubtomiq_both_ways {
+    uint64_t ends_number;
+    yubtomiq_counts ends;
+    uint64_t run_number;
+    yubtomiq_counts run;
+} yubtomiq_both_ways;
 
 typedef struct yubtomiq_pass_counts {
     uint64_t moves, elected, used;
@@ -197,6 +211,15 @@ uint64_t yubtomiq_segment(uint64_t *words, size_t count, const yubtomiq_settings
 uint64_t yubtomiq_walk(uint64_t *words, size_t count, const yubtomiq_settings *settings, const yubtomiq_price *prev,
                        const uint64_t *prices, size_t price_count, yubtomiq_elected *elected, size_t elected_count,
                        yubtomiq_counts *answer);
+
+/* A run of prices on two stores: on `ends` by a segment from its first price to its last, on `run` by a walk. Each may be refused by itself
+ * (16 where there is no price), and then leaves its store and lists. Proved: where the stores are equal and well formed, the prices are 1 to 4,096
+ * and never rise or never fall, and the lists are as long as the calls ask, neither is refused, both list the same stops in the same order, alike but
+ * for their trigger prices, and the stores are equal again in every word. */
+void yubtomiq_evaluate_both_ways(uint64_t *ends, size_t ends_count, uint64_t *run, size_t run_count,
+                                 const yubtomiq_settings *settings, const yubtomiq_price *prev, const uint64_t *prices,
+                                 size_t price_count, yubtomiq_elected *elected, size_t elected_count, yubtomiq_moved *moved,
+                                 size_t moved_count, yubtomiq_elected *listed, size_t listed_count, yubtomiq_both_ways *answer);
 
 /* A pass: segments from a queue, at first this one. The script is lent as its words, five to an entry. Refused: 1, 14, 15. */
 uint64_t yubtomiq_evaluate_pending_stops(uint64_t *words, size_t count, const yubtomiq_settings *settings, const uint64_t *script,

@@ -58,6 +58,23 @@ mod library {
             elected_count: usize,
             answer: &mut [u64; 2],
         ) -> u64;
+        pub fn yubtomiq_evaluate_both_ways(
+            ends: *mut u64,
+            ends_count: usize,
+            run: *mut u64,
+            run_count: usize,
+            settings: &[u64; 4],
+            prev: &[u64; 2],
+            prices: *const u64,
+            price_count: usize,
+            elected: *mut [u64; 13],
+            elected_count: usize,
+            moved: *mut [u64; 4],
+            moved_count: usize,
+            listed: *mut [u64; 13],
+            listed_count: usize,
+            answer: &mut [u64; 6],
+        );
         pub fn yubtomiq_evaluate_pending_stops(
             words: *mut u64,
             count: usize,
@@ -462,11 +479,33 @@ pub struct Segment {
     pub elected: Vec<Elected>,
 }
 
+impl Segment {
+    fn of(moved: &[[u64; 4]], elected: &[[u64; 13]]) -> Segment {
+        Segment {
+            moved: moved.iter().map(|w| Moved { id: Id::of(w), stop: w[3] }).collect(),
+            elected: elected.iter().map(Elected::of).collect(),
+        }
+    }
+}
+
 /// What a walk did; moves counts each stop changed, once per price.
 #[derive(Clone, Debug, PartialEq, Eq)]
 pub struct Walk {
     pub moves: u64,
     pub elected: Vec<Elected>,
+}
+
+impl Walk {
+    fn of(moves: u64, elected: &[[u64; 13]]) -> Walk {
+        Walk { moves, elected: elected.iter().map(Elected::of).collect() }
+    }
+}
+
+/// What a run of prices gives both ways: by a segment over its ends, and by a walk.
+#[derive(Clone, Debug, PartialEq, Eq)]
+pub struct BothWays {
+    pub ends: Result<Segment, Refusal>,
+    pub run: Result<Walk, Refusal>,
 }
 
 /// What a pass did, and how many script entries it used.
@@ -622,10 +661,7 @@ impl Store {
                 &mut answer,
             )
         };
-        done(number, answer).map(|[moves, count]| Segment {
-            moved: moved[..moves as usize].iter().map(|w| Moved { id: Id::of(w), stop: w[3] }).collect(),
-            elected: elected[..count as usize].iter().map(Elected::of).collect(),
-        })
+        done(number, answer).map(|[moves, count]| Segment::of(&moved[..moves as usize], &elected[..count as usize]))
     }
 
     /// A walk: a point at each price in turn.
@@ -645,8 +681,7 @@ impl Store {
                 &mut answer,
             )
         };
-        done(number, answer)
-            .map(|[moves, count]| Walk { moves, elected: elected[..count as usize].iter().map(Elected::of).collect() })
+        done(number, answer).map(|[moves, count]| Walk::of(moves, &elected[..count as usize]))
     }
 
     /// A pass: segments from a queue, at first this one. See [`script_words`].
@@ -705,6 +740,45 @@ fn passed([moves, count, used]: [u64; 3], elected: &[[u64; 13]]) -> Pass {
 
 // ---------------------------------------------------------------------
 // Preview, limit and child
+
+/// A run of prices on two stores: on `ends` by a segment from its first price to its last, on `run` by a walk. Of two equal stores a run that
+/// never rises, or never falls, elects the same stops both ways, in the same order, and leaves the stores equal.
+pub fn evaluate_both_ways(
+    ends: &mut Store,
+    run: &mut Store,
+    settings: Settings,
+    prev: Option<u64>,
+    prices: &[u64],
+) -> BothWays {
+    let mut elected = ends.elected_list();
+    let mut moved = vec![[0; 4]; 2 * elected.len()];
+    let mut listed = run.elected_list();
+    let mut answer = [0; 6];
+    unsafe {
+        library::yubtomiq_evaluate_both_ways(
+            ends.words.as_mut_ptr(),
+            ends.words.len(),
+            run.words.as_mut_ptr(),
+            run.words.len(),
+            &settings.words(),
+            &price_words(prev),
+            prices.as_ptr(),
+            prices.len(),
+            elected.as_mut_ptr(),
+            elected.len(),
+            moved.as_mut_ptr(),
+            moved.len(),
+            listed.as_mut_ptr(),
+            listed.len(),
+            &mut answer,
+        )
+    };
+    let [number, moves, count, walked, steps, listed_count] = answer;
+    BothWays {
+        ends: done(number, ()).map(|()| Segment::of(&moved[..moves as usize], &elected[..count as usize])),
+        run: done(walked, ()).map(|()| Walk::of(steps, &listed[..listed_count as usize])),
+    }
+}
 
 /// New stop and reference, if the price is past the reference and the stop improves.
 pub fn calculate_trailing_stop_price(

@@ -5,7 +5,9 @@
 #include "../yubtomiq.h"
 
 #include <inttypes.h>
+#include <pthread.h>
 #include <stdio.h>
+#include <stdlib.h>
 #include <string.h>
 
 static int made, failed;
@@ -215,8 +217,90 @@ static void values(void) {
     same("too many records", yubtomiq_layout_store((uint64_t[9]){0}, 9, 701, 0), 2);
 }
 
+enum { MOST = YUBTOMIQ_MOST_RECORDS, FULL = 9 + 11 * MOST };
+
+static uint64_t full[FULL], other[FULL];
+static yubtomiq_elected elected_list[MOST], other_list[MOST];
+static yubtomiq_moved moved_list[2 * MOST];
+static yubtomiq_script_entry script[MOST];
+
+/* A full store: sells one below the other, so that each print elects one. */
+static void fill(uint64_t words[FULL]) {
+    yubtomiq_path path = {0, 0, 0, 0};
+    same("full layout", yubtomiq_layout_store(words, FULL, MOST, 0), 0);
+    for (uint64_t i = 0; i < MOST; i++) {
+        yubtomiq_id id = sequential(i + 1);
+        yubtomiq_terms terms = {YUBTOMIQ_SELL, 10000 - i, 20000, 5};
+        uint64_t sequence;
+        if (yubtomiq_admit_trailing_stop(words, FULL, &path, 0, &NONE, &id, &terms, 1, &sequence) != 0)
+            same("full store", i, MOST);
+    }
+}
+
+/* The calls at their worst: searches to the end of a chain of 700, 700 elected at one print, and a pass of 700 segments. */
+static void *worst(void *unused) {
+    yubtomiq_path path = {0, 0, 0, 0};
+    yubtomiq_id last = sequential(MOST), absent = sequential(MOST + 1);
+    yubtomiq_terms terms = {YUBTOMIQ_SELL, 1, 20000, 5};
+    yubtomiq_update update = {YUBTOMIQ_CHANGE_PRICE, 0, 2, 0};
+    yubtomiq_prints one = {0, 0, 10000, 10000}, all = {0, 0, 10000, 1};
+    yubtomiq_pass_counts pass;
+    yubtomiq_counts counts;
+    yubtomiq_found found;
+    yubtomiq_stop stop;
+    yubtomiq_both_ways both;
+    uint64_t sequence, falling[2] = {10000, 1};
+    (void)unused;
+    fill(full);
+    same("admission, full", yubtomiq_admit_trailing_stop(full, FULL, &path, 0, &NONE, &absent, &terms, 1, &sequence), 10);
+    same("search, last", yubtomiq_pending_stop_order(full, FULL, &last, &found), 0);
+    same("change, last", yubtomiq_update_pending_stop(full, FULL, &last, &update, &NONE, &stop), 0);
+    same("cancel, last", yubtomiq_cancel_pending_stop(full, FULL, &last, &stop), 0);
+    fill(full);
+    for (size_t i = 0; i < MOST; i++)
+        script[i] = (yubtomiq_script_entry){1, 0, 0, 9999 - i, 9999 - i};
+    same("longest pass", yubtomiq_evaluate_pending_stops(full, FULL, &PLAIN, (const uint64_t *)script, 5 * MOST, &one, elected_list, MOST, &pass), 0);
+    same("longest pass, elected", pass.elected, MOST);
+    fill(full);
+    path = (yubtomiq_path){1, 0, 0, 10000};
+    same("longest run", yubtomiq_run_stop_triggers(full, FULL, &path, &PLAIN, (const uint64_t *)script, 5 * MOST, &NONE, elected_list, MOST, &pass), 0);
+    same("longest run, elected", pass.elected, MOST);
+    fill(full);
+    same("segment, all", yubtomiq_segment(full, FULL, &PLAIN, &all, elected_list, MOST, moved_list, 2 * MOST, &counts), 0);
+    same("segment, all elected", counts.elected, MOST);
+    fill(full);
+    fill(other);
+    yubtomiq_evaluate_both_ways(full, FULL, other, FULL, &PLAIN, &NONE, falling, 2, elected_list, MOST, moved_list, 2 * MOST, other_list, MOST, &both);
+    same("both ways, by the ends", both.ends_number, 0);
+    same("both ways, by the run", both.run_number, 0);
+    same("both ways, elected by the ends", both.ends.elected, MOST);
+    same("both ways, elected by the run", both.run.elected, MOST);
+    same_words("both ways, stores", full, other, FULL);
+    return NULL;
+}
+
+/* They run on a thread that has no more stack than the header says; what of it was touched is printed. */
+static void stack(void) {
+    static char *lent;
+    pthread_attr_t attributes;
+    pthread_t thread;
+    size_t untouched = 0;
+    if (posix_memalign((void **)&lent, 65536, YUBTOMIQ_STACK_BYTES) != 0)
+        exit(2);
+    memset(lent, 0x5a, YUBTOMIQ_STACK_BYTES);
+    pthread_attr_init(&attributes);
+    same("stack", (uint64_t)pthread_attr_setstack(&attributes, lent, YUBTOMIQ_STACK_BYTES), 0);
+    same("thread", (uint64_t)pthread_create(&thread, &attributes, worst, NULL), 0);
+    pthread_join(thread, NULL);
+    while (untouched < YUBTOMIQ_STACK_BYTES && lent[untouched] == 0x5a)
+        untouched++;
+    same("stack left over", untouched > 0, 1);
+    printf("test.c: %zu of %d bytes of stack touched\n", YUBTOMIQ_STACK_BYTES - untouched, YUBTOMIQ_STACK_BYTES);
+}
+
 int main(void) {
     refused_values();
+    stack();
     lists();
     answers();
     path_and_run();

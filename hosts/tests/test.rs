@@ -279,6 +279,31 @@ fn paths(c: &mut Checks) {
     c.same("an absent prev is 0", path, PrintPath { open: false, has_prev: false, prev: 0, first: 3 });
 }
 
+/// A run that falls, both ways on two equal stores: the same stops in the same order, and equal stores after. Refusals one by one.
+fn both_ways(c: &mut Checks) {
+    let stops = [sell(95, 100, 5), sell(90, 100, 10), buy(110, 100, 10), sell(97, 100, 3)];
+    let whole = store(4, 0, &stops);
+    let (mut ends, mut run) = (whole.clone(), whole.clone());
+    let both = evaluate_both_ways(&mut ends, &mut run, Settings::default(), None, &[99, 96, 94, 94, 80]);
+    let (by_ends, by_run) = (both.ends.expect("a segment"), both.run.expect("a walk"));
+    let ids = |elected: &[Elected]| elected.iter().map(|e| e.id.low).collect::<Vec<u64>>();
+    c.same("both ways, elected", ids(&by_ends.elected), ids(&by_run.elected));
+    c.same("both ways, how many", by_run.elected.len(), 3);
+    c.same("both ways, trigger by the ends", by_ends.elected[0].trigger, 80);
+    c.same("both ways, trigger by the run", by_run.elected[0].trigger, 96);
+    c.same("both ways, stores", ends.words(), run.words());
+    let (mut ends, mut run) = (whole.clone(), Store::from_words(vec![1, 2, 3]));
+    let both = evaluate_both_ways(&mut ends, &mut run, Settings::default(), None, &[99]);
+    c.same("both ways, one store damaged: the ends", both.ends.is_ok(), true);
+    c.refused(both.run, Refusal::StoreNotWellFormed);
+    let (mut ends, mut run) = (whole.clone(), whole.clone());
+    let both = evaluate_both_ways(&mut ends, &mut run, Settings::default(), None, &[]);
+    c.refused(both.ends, Refusal::PriceCountOutOfRange);
+    c.refused(both.run, Refusal::PriceCountOutOfRange);
+    c.same("both ways, refused: the ends' store", ends.words(), whole.words());
+    c.same("both ways, refused: the run's store", run.words(), whole.words());
+}
+
 fn main() {
     let mut c = Checks::default();
     terms_examples(&mut c);
@@ -290,6 +315,7 @@ fn main() {
     order_example(&mut c);
     turning_example(&mut c);
     run_and_ends(&mut c);
+    both_ways(&mut c);
     moved_list(&mut c);
     passes(&mut c);
     paths(&mut c);

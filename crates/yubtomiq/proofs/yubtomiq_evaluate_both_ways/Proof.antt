@@ -1,0 +1,35 @@
+-- `yubtomiq::yubtomiq_evaluate_both_ways` meets its contract: demand 3, from the contracts of both calls.
+use borrow.Author.Needs.{needs}
+use Rattle.yubtomiq.proofs.BothWays.{both-told, decided-words}
+use Rattle.yubtomiq.proofs.yubtomiq_evaluate_both_ways.Statement.{statement}
+use Rattle.yubtomiq.proofs.yubtomiq_evaluate_both_ways.Tie as tie
+
+returns : tie.Need-returns
+returns c =
+    let w = c .before .before .before .before in
+    let o = w .before .before .before .before .before .before .before .before in
+    let g = o .before .before .before .before .before .before .before .before .args in
+    let d = o .over-ends .ensures in
+    let e = w .yubtomiq-walk .ensures in
+    let words = both-told _ _ _ _ _ _ (d .0) (e .0) in
+    let all =
+    decided-words (g .settings .now) (g .prev .now) (g .prices .now) (g .ends .now) (g .run .now) (g .elected .now)
+    (g .moved .now) (g .listed .now) _ _ _ _ _ words (d .1) (d .2) (e .1) (e .2) in
+    (all, (words, d .1, d .2, d .3, e .1, e .2))
+
+pub yubtomiq-evaluate-both-ways-spec : {M : Type 1} → statement M
+yubtomiq-evaluate-both-ways-spec =
+    tie.close
+    (tie.spec
+    (λ c κs. search needs)
+    (λ c κs. search needs)
+    (λ c. search needs)
+    (λ c. search needs)
+    (λ c. search needs)
+    (λ c. search needs)
+    (λ c. search needs)
+    (λ c. search needs)
+    (λ c. search needs)
+    (λ c. search needs)
+    (λ c. search needs)
+    returns)
