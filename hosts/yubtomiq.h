@@ -64,7 +64,7 @@ enum yubtomiq_change {
 #define YUBTOMIQ_STORE_WORDS(n) (9 + 11 * (size_t)(n))
 
 /* Stack that is enough for any call. */
-#define YUBTOMIQ_STACK_BYTES (128 * 1024)
+#define YUBTOMIQ_STACK_BYTES (80 * 1024)
 
 /*
  * The structures are words, in the order of the fields. Of a flag in an argument any value but 0 is "yes", but for those of a path

@@ -57,6 +57,7 @@ pub fn stop_trigger_order_id(namespace: &[u64; 2], id: &[u64; 3], answer: &mut [
         return UNKNOWN;
     }
     let of = namespace_of(namespace);
-    *answer = id_words(stop_trigger::stop_trigger_order_id(of, id_of(id)));
+    let parent = id_of(id);
+    *answer = id_words(stop_trigger::stop_trigger_order_id(of, parent));
     0
 }

@@ -30,7 +30,8 @@ pub fn segment(
         × (now (moved .exit) ≡ written (map movedWords (o .moved)) (now (moved .entry)))) ⌝ }
 {
     let of = settings_of(settings);
-    let evaluated = evaluate_segment::segment(s, of, prints_of(prints), elected, moved);
+    let over = prints_of(prints);
+    let evaluated = evaluate_segment::segment(s, of, over, elected, moved);
     of_evaluation(evaluated, answer)
 }
 
@@ -49,6 +50,7 @@ pub fn walk(
         × (now (elected .exit) ≡ written (map electedWords (o .elected)) (now (elected .entry)))) ⌝ }
 {
     let of = settings_of(settings);
-    let evaluated = evaluate_walk::walk(s, of, last_price_of(prev), prices, elected);
+    let before = last_price_of(prev);
+    let evaluated = evaluate_walk::walk(s, of, before, prices, elected);
     of_evaluation(evaluated, answer)
 }

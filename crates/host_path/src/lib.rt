@@ -35,7 +35,9 @@ pub fn take_path(path: &mut [u64; 4], trade: &[u64; 2], answer: &mut [u64; 5]) -
     if !path_known(path) {
         return UNKNOWN;
     }
-    let taken = print_path::taken(path_of(path), last_price_of(trade));
+    let before = path_of(path);
+    let last = last_price_of(trade);
+    let taken = print_path::taken(before, last);
     let after = taken.path;
     *path = path_words(after);
     let next = taken.segment;
@@ -52,7 +54,8 @@ pub fn reset_path(path: &mut [u64; 4]) -> u64
     if !path_known(path) {
         return UNKNOWN;
     }
-    let after = print_path::closed(path_of(path));
+    let open = path_of(path);
+    let after = print_path::closed(open);
     *path = path_words(after);
     0
 }

@@ -27,12 +27,10 @@ pub fn update_pending_stop(
     if !change_known(id, update) {
         return UNKNOWN;
     }
-    let changed = changes::update_pending_stop(
-        s,
-        id_of(id),
-        update_of(update),
-        last_price_of(trade),
-    );
+    let of = id_of(id);
+    let change = update_of(update);
+    let last = last_price_of(trade);
+    let changed = changes::update_pending_stop(s, of, change, last);
     of_stop(changed, answer)
 }
 
@@ -45,7 +43,8 @@ pub fn cancel_pending_stop(s: &mut [u64], id: &[u64; 3], answer: &mut [u64; 9]) 
     if !id_known(id) {
         return UNKNOWN;
     }
-    let cancelled = store_calls::cancel_pending_stop(s, id_of(id));
+    let of = id_of(id);
+    let cancelled = store_calls::cancel_pending_stop(s, of);
     of_stop(cancelled, answer)
 }
 
@@ -56,6 +55,7 @@ pub fn pending_stop_order(s: &[u64], id: &[u64; 3], answer: &mut [u64; 10]) -> u
     if !id_known(id) {
         return UNKNOWN;
     }
-    let found = store_calls::pending_stop_order(s, id_of(id));
+    let of = id_of(id);
+    let found = store_calls::pending_stop_order(s, of);
     of_find(found, answer)
 }

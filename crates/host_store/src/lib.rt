@@ -46,7 +46,8 @@ pub fn clear(s: &mut [u64], path: &mut [u64; 4]) -> u64
     if !path_known(path) {
         return UNKNOWN;
     }
-    let cleared = store_calls::clear(s, path_of(path));
+    let before = path_of(path);
+    let cleared = store_calls::clear(s, before);
     let after = cleared.path;
     *path = path_words(after);
     let given = cleared.answer;

@@ -6,8 +6,8 @@ use Rattle.host_evaluation.proofs.segment.Tie as tie
 returns : tie.Need-returns
 returns c =
     let s = c .before .before .before .before .before .before in
-    let p = s .before .before .before in
-    let a = p .before .before in
+    let p = s .before .before .before .before in
+    let a = p .before in
     let told = rw (s .segment .ensures .0) at (c .of-evaluation .ensures) in
     rw (← a .settings-of .ensures, ← p .prints-of .ensures)
     (told, s .segment .ensures .1 .0, s .segment .ensures .1 .1 .0, s .segment .ensures .1 .1 .1)

@@ -6,8 +6,8 @@ use Rattle.host_evaluation.proofs.walk.Tie as tie
 returns : tie.Need-returns
 returns c =
     let w = c .before .before .before .before .before in
-    let l = w .before .before in
-    let s = l .before .before in
+    let l = w .before .before .before in
+    let s = l .before in
     let told = rw (w .walk .ensures .0) at (c .of-evaluation .ensures) in
     rw (← s .settings-of .ensures, ← l .last-price-of .ensures)
     (told, w .walk .ensures .1 .0, w .walk .ensures .1 .1)

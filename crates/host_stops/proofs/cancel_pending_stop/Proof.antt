@@ -15,8 +15,8 @@ returns-2 : tie.Need-returns-2
 unfolding cancelByWords
 returns-2 c =
     let a = c .before .before .before .before in
-    let i = a .before in
-    let b = i .before .before in
+    let i = a .before .before in
+    let b = i .before in
     let d = b .before in
     let known = sym (d .id-known .ensures) ∙ not-false _ (b .if1 .left) in
     let told = rw (a .cancel-pending-stop .ensures .0) at (c .of-stop .ensures) in

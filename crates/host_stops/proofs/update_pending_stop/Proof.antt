@@ -15,10 +15,10 @@ returns-2 : tie.Need-returns-2
 unfolding updateByWords
 returns-2 c =
     let u = c .before .before .before .before in
-    let l = u .before in
+    let l = u .before .before in
     let a = l .before in
     let i = a .before in
-    let b = i .before .before in
+    let b = i .before in
     let d = b .before in
     let known = sym (d .change-known .ensures) ∙ not-false _ (b .if1 .left) in
     let told = rw (u .update-pending-stop .ensures .0) at (c .of-stop .ensures) in

@@ -16,8 +16,8 @@ unfolding clearByWords hosted
 returns-2 c =
     let p = c .before in
     let a = p .before .before .before .before in
-    let b = a .before in
-    let i = b .before .before .before in
+    let b = a .before .before in
+    let i = b .before .before in
     let d = i .before in
     let known = sym (d .path-known .ensures) ∙ not-false _ (i .if1 .left) in
     let path = p .path-words .ensures ∙ ap pathWords (a .clear .ensures .1 .0) in
