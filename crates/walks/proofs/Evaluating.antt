@@ -44,17 +44,21 @@ use Rattle.book.specs.Calls.{written}
 use Rattle.book.specs.Sizes.{mostRecords}
 use Rattle.book.specs.declared.Elected.{Elected}
 use Rattle.book.specs.declared.Settings.{Settings}
-use Rattle.lent_lists.specs.Records.{electedOf}
 use Rattle.walks.proofs.Buffers.{Typed, Entry, blank, blank-length, zeros, blankVal, zeroed, lends-out, had-back, fills}
 use Rattle.walks.proofs.Claims.{All, claims, claimed}
-use Rattle.walks.proofs.Constants.{electedWide}
-use Rattle.lent_lists.proofs.Cut.{Left}
+use Rattle.book.specs.Sizes.{electedLength}
 use Rattle.walks.proofs.Filling.{Fills}
 use Rattle.walks.proofs.Frame.{Cell, room as empty, full, away, locals, frees-all}
 use Rattle.walks.proofs.Lent.{has, answers}
 use Rattle.walks.proofs.Locals.{to-row, row-room}
 use Rattle.walks.proofs.Plain.{Plain, word, value, stands, Stands}
 use Rattle.walks.proofs.Types.{SettingsOf, ElectedOf}
+
+-- what a call tells, the store after it, and the entries that it lists
+pub record Left (T : Type 0) : Type 0 where
+  pub told : T
+  pub words : List ℕ
+  pub entries : List Elected
 
 -- a parameter that is handed on: its row, by the lifetime at which it may be lent, and what a walk uses of it, as in `Plain`
 pub record Handed : Type 2 where
@@ -130,10 +134,10 @@ calls-callee callee filler = seq (assign (place 9 []) (addrOf (place 1 (field 0 
     (place 7 [])) (fills-list filler))))))
 
 abbrev makes-words : Name → Name → Body
-makes-words callee filler = seq (assign (place 8 []) (repeat (int w64 0) electedWide))
+makes-words callee filler = seq (assign (place 8 []) (repeat (int w64 0) electedLength))
     (seq (assign (place 6 []) (repeat (copy (place 8 [])) mostRecords)) (calls-callee callee filler))
 
-module _ (P Q : Plain) (answer : Q .row .Denot → P .row .Denot) (count : Q .row .Denot → ℕ) (X Y : Handed) {T : Type 0} (told : P .row .Denot → T)
+module _ (of : List ℕ → Elected) (P Q : Plain) (answer : Q .row .Denot → P .row .Denot) (count : Q .row .Denot → ℕ) (X Y : Handed) {T : Type 0} (told : P .row .Denot → T)
     (outcome : (κ : Lft) → Settings → X .row κ .Denot → Y .row κ .Denot → List ℕ → ℕ → Left T) where
   -- the type of what the callee answers, its two fields written out
   abbrev Returned : Ty
@@ -153,7 +157,7 @@ module _ (P Q : Plain) (answer : Q .row .Denot → P .row .Denot) (count : Q .ro
       lifetimes = 3;
       outlives = [];
       params = mutSliceOf (0 ∷ []) tt (plain (λ κs. u64)) ∷ plain (λ κs. SettingsOf .row) ∷ slotX ∷ slotY
-          ∷ mutSliceOf (2 ∷ []) tt (plain (λ κs. Entry electedWide)) ∷ plain (λ κs. usize) ∷ [];
+          ∷ mutSliceOf (2 ∷ []) tt (plain (λ κs. Entry electedLength)) ∷ plain (λ κs. usize) ∷ [];
       result = plain (λ κs. Q .row);
     };
     kept = (yes, (yes, (yes, (yes, (yes, (yes, tt))))));
@@ -163,7 +167,7 @@ module _ (P Q : Plain) (answer : Q .row .Denot → P .row .Denot) (count : Q .ro
   Did κ settings x y w room r zs ws =
       ((count r ≤ room) × (count r ≤ mostRecords))
       ∷ (told (answer r) ≡ outcome κ settings x y w room .told) ∷ (zs ≡ outcome κ settings x y w room .words)
-      ∷ (map electedOf (take (count r) ws) ≡ outcome κ settings x y w room .entries)
+      ∷ (map of (take (count r) ws) ≡ outcome κ settings x y w room .entries)
       ∷ []
 
   abbrev called : {M : Type 1} (𝓤 : URA M) → Clauses 𝓤 calling
@@ -217,19 +221,19 @@ module _ (P Q : Plain) (answer : Q .row .Denot → P .row .Denot) (count : Q .ro
         ∷ local (X .mir) valueLocal
         ∷ local (Y .mir) valueLocal
         ∷ local slice valueLocal
-        ∷ local (tyArray (tyArray (tyInt w64) electedWide) mostRecords) memorySlot
+        ∷ local (tyArray (tyArray (tyInt w64) electedLength) mostRecords) memorySlot
         ∷ local Returned valueLocal
-        ∷ local (tyArray (tyInt w64) electedWide) valueLocal
+        ∷ local (tyArray (tyInt w64) electedLength) valueLocal
         ∷ local (tyRef erased mut (tyInt w64)) valueLocal
         ∷ local (sliceTy (tyRef erased mut (tyInt w64))) valueLocal
-        ∷ local (tyRef erased mut (tyArray (tyArray (tyInt w64) electedWide) mostRecords)) valueLocal
-        ∷ local (sliceTy (tyRef erased mut (tyArray (tyInt w64) electedWide))) valueLocal
+        ∷ local (tyRef erased mut (tyArray (tyArray (tyInt w64) electedLength) mostRecords)) valueLocal
+        ∷ local (sliceTy (tyRef erased mut (tyArray (tyInt w64) electedLength))) valueLocal
         ∷ local (tyInt w64) valueLocal
         ∷ local tyUnit valueLocal
         ∷ local (tyRef erased mut (pointee (R .written))) valueLocal
         ∷ local (sliceTy (tyRef erased mut (pointee (R .written)))) valueLocal
-        ∷ local (tyRef erased imm (tyArray (tyArray (tyInt w64) electedWide) mostRecords)) valueLocal
-        ∷ local (sliceTy (tyRef erased imm (tyArray (tyInt w64) electedWide))) valueLocal ∷ [];
+        ∷ local (tyRef erased imm (tyArray (tyArray (tyInt w64) electedLength) mostRecords)) valueLocal
+        ∷ local (sliceTy (tyRef erased imm (tyArray (tyInt w64) electedLength))) valueLocal ∷ [];
     body = makes-words callee filler;
   }
 
@@ -310,7 +314,7 @@ module _ (P Q : Plain) (answer : Q .row .Denot → P .row .Denot) (count : Q .ro
         alive = ‵ (flft κ₁ q₁) ⊛ ‵ (flft κ₂ q₂) ⊛ ‵ (flft (ν ∷ []) fullShare) ⊛ ‵ ftrue
 
         abbrev Buffer : Fml
-        Buffer = MutSlice (named 2) (ν ∷ []) (Entry electedWide) .own (buffer δ ws) (sw ∷ [])
+        Buffer = MutSlice (named 2) (ν ∷ []) (Entry electedLength) .own (buffer δ ws) (sw ∷ [])
 
         abbrev to₁ : Evaluates 𝓤 H A .Ghost
         to₁ = (
@@ -336,7 +340,7 @@ module _ (P Q : Plain) (answer : Q .row .Denot → P .row .Denot) (count : Q .ro
             move ! (1 ∷ 0 ∷ []) $ fjoin ! $ has SettingsOf ! settings settings-is $ fjoin ! $ move ! (1 ∷ 0 ∷ []) $ fjoin ! $ done !
 
       -- ---- the second call
-      abbrev to₂ : List (List ℕ) → ℕ → ℕ → GName → Fills ElectedOf electedWide electedOf 𝓤 H A .Ghost
+      abbrev to₂ : List (List ℕ) → ℕ → ℕ → GName → Fills ElectedOf electedLength of 𝓤 H A .Ghost
       to₂ ws n ν δ =
           (((κ₃, (ν ∷ [], tt)), (q₃, (fullShare, tt)), tt, (xe, (buffer δ ws, (n, tt))), (s₃ ∷ [], (sw ∷ [], (vint w64 n ∷ [], tt)))), tt)
 
@@ -357,9 +361,9 @@ module _ (P Q : Plain) (answer : Q .row .Denot → P .row .Denot) (count : Q .ro
         frame ! $ has P ! (answer r) (parts .stand r is .0) $ done !
 
     module _ (C : Calls 𝓤 H) (Λ : Loops 𝓤 H) (fm : FmC 𝓤 H (W .laws) C) (callee filler : Name) (known₁ : Triple 𝓤 (C callee) (Evaluates 𝓤 H A))
-        (known₂ : Triple 𝓤 (C filler) (Fills ElectedOf electedWide electedOf 𝓤 H A)) (room₁ : Room u64 (length (xs .now)))
+        (known₂ : Triple 𝓤 (C filler) (Fills ElectedOf electedLength of 𝓤 H A)) (room₁ : Room u64 (length (xs .now)))
         (room₃ : Room R (length (xe .now))) where
-      words-room : Room (Entry electedWide) mostRecords
+      words-room : Room (Entry electedLength) mostRecords
       words-room = (lit< tt, lit< tt)
 
       module _ (l₀ l₁ l₂ l₃ l₄ l₅ l₆ l₇ l₈ l₉ l₁₀ l₁₁ l₁₂ l₁₃ l₁₄ l₁₅ l₁₆ l₁₇ l₁₈ : ℕ) where
@@ -370,19 +374,19 @@ module _ (P Q : Plain) (answer : Q .row .Denot → P .row .Denot) (count : Q .ro
             ∷ (X .mir, l₃)
             ∷ (Y .mir, l₄)
             ∷ (slice, l₅)
-            ∷ (tyArray (tyArray (tyInt w64) electedWide) mostRecords, l₆)
+            ∷ (tyArray (tyArray (tyInt w64) electedLength) mostRecords, l₆)
             ∷ (Returned, l₇)
-            ∷ (tyArray (tyInt w64) electedWide, l₈)
+            ∷ (tyArray (tyInt w64) electedLength, l₈)
             ∷ (tyRef erased mut (tyInt w64), l₉)
             ∷ (sliceTy (tyRef erased mut (tyInt w64)), l₁₀)
-            ∷ (tyRef erased mut (tyArray (tyArray (tyInt w64) electedWide) mostRecords), l₁₁)
-            ∷ (sliceTy (tyRef erased mut (tyArray (tyInt w64) electedWide)), l₁₂)
+            ∷ (tyRef erased mut (tyArray (tyArray (tyInt w64) electedLength) mostRecords), l₁₁)
+            ∷ (sliceTy (tyRef erased mut (tyArray (tyInt w64) electedLength)), l₁₂)
             ∷ (tyInt w64, l₁₃)
             ∷ (tyUnit, l₁₄)
             ∷ (tyRef erased mut (pointee (R .written)), l₁₅)
             ∷ (sliceTy (tyRef erased mut (pointee (R .written))), l₁₆)
-            ∷ (tyRef erased imm (tyArray (tyArray (tyInt w64) electedWide) mostRecords), l₁₇)
-            ∷ (sliceTy (tyRef erased imm (tyArray (tyInt w64) electedWide)), l₁₈) ∷ []
+            ∷ (tyRef erased imm (tyArray (tyArray (tyInt w64) electedLength) mostRecords), l₁₇)
+            ∷ (sliceTy (tyRef erased imm (tyArray (tyInt w64) electedLength)), l₁₈) ∷ []
 
         -- the parameters' cells, and those of the locals of the first call and of the second
         abbrev given : List Cell
@@ -390,7 +394,7 @@ module _ (P Q : Plain) (answer : Q .row .Denot → P .row .Denot) (count : Q .ro
 
         abbrev first : Val → List Cell
         first r =
-            full r ∷ full (zeros electedWide) ∷ full (vptr (xs .ptr .0) (xs .ptr .1)) ∷ full s₁ ∷ full (vptr l₆ 0) ∷ full (sw l₆)
+            full r ∷ full (zeros electedLength) ∷ full (vptr (xs .ptr .0) (xs .ptr .1)) ∷ full s₁ ∷ full (vptr l₆ 0) ∷ full (sw l₆)
             ∷ full (vint w64 (length (xe .now))) ∷ []
 
         abbrev second : Val → List Cell
@@ -399,7 +403,7 @@ module _ (P Q : Plain) (answer : Q .row .Denot → P .row .Denot) (count : Q .ro
         -- after the first call: the words are back, and the store's last list is had
         abbrev Got : Q .row .Denot → List ℕ → List (List ℕ) → List (Item 𝓤)
         Got r zs ws =
-            ‵ (row (Entry electedWide) fullShare ws l₆ 0) ∷ ‵ Lists ∷ ‵ (flft κ₃ q₃) ∷ ‵ (flft κ₂ q₂) ∷ ‵ (flft κ₁ q₁) ∷ ‵ (finally u64 (xs .name) zs)
+            ‵ (row (Entry electedLength) fullShare ws l₆ 0) ∷ ‵ Lists ∷ ‵ (flft κ₃ q₃) ∷ ‵ (flft κ₂ q₂) ∷ ‵ (flft κ₁ q₁) ∷ ‵ (finally u64 (xs .name) zs)
             ∷ locals 𝓤 H En (empty ∷ given ++ away ∷ first (pair r)) []
 
         writes : (r : Q .row .Denot) → Stands Q r → (zs : List ℕ) → length zs ≡ length (xs .now) → (ws : List (List ℕ)) → length ws ≡ mostRecords
@@ -414,16 +418,16 @@ module _ (P Q : Plain) (answer : Q .row .Denot → P .row .Denot) (count : Q .ro
             assigns ! (agg ! (and-then ! (load ! (from ! (stop !)) (look ! 8 refl)) (and-then ! (lit ! tt) (no-more !)))) (from ! (stop !))
             (init ! 6 refl (tt, (tt, (record { fits = lit< tt }, tt)))) $
             -- in the call: [what it asks; the lender's part; the second token; the store's; its last list; _18 (5); …]
-            fills R electedWide mostRecords electedOf xe l₆ ws (count r) ! (e .0 .0, subst (λ (k : ℕ). count r ≤ k) (sym long) (e .0 .1))
-            (parts .stand r is .1) long words-room fm (Fills ElectedOf electedWide electedOf 𝓤 H A) known₂ (to₂ l₆ ws (count r)) (λ ν δ. id⊢ 𝓤 _)
+            fills R electedLength mostRecords of xe l₆ ws (count r) ! (e .0 .0, subst (λ (k : ℕ). count r ≤ k) (sym long) (e .0 .1))
+            (parts .stand r is .1) long words-room fm (Fills ElectedOf electedLength of 𝓤 H A) known₂ (to₂ l₆ ws (count r)) (λ ν δ. id⊢ 𝓤 _)
             (λ ν δ w. id⊢ 𝓤 _) (λ ν δ. and-then ! (load ! (from ! (stop !)) (look ! 9 refl)) (and-then ! (load ! (from ! (stop !)) (look ! 5 refl))
             (and-then ! (load ! (from ! (fld ! refl (stop !))) (look-in ! 27 (sub ! 1 refl (whole !)))) (no-more !)))) (λ w w-typed ms m₂ h.
             -- [the words; the list's token; its last list; the second token; the store's; its last list; _18 (6); …]
             land ! (from ! (stop !)) (init ! 14 refl w-typed) $
             assigns ! (of-opd ! (load ! (from ! (fld ! refl (stop !))) (look-in ! 28 (sub ! 0 refl (whole !))))) (from ! (stop !))
             (init ! 41 refl (P .typed 𝓤 H A W (answer r) _ (parts .stand r is .0))) $
-            use1 W (‵ (froom (tyArray (tyArray (tyInt w64) electedWide) mostRecords) l₆ 0))
-            (row-room 𝓤 H A W (Entry electedWide) mostRecords l₆ ws long) $
+            use1 W (‵ (froom (tyArray (tyArray (tyInt w64) electedLength) mostRecords) l₆ 0))
+            (row-room 𝓤 H A W (Entry electedLength) mostRecords l₆ ws long) $
             returns ! (look ! 41 refl) $ frees-all ! 31 (full (P .val (answer r)) ∷ given) tt refl $
             move ! (0 ∷ 30 ∷ []) $ free1 ! $ frees-all ! 5 (first (pair r) ++ second w) tt refl $ free0 ! $ keep ! (4 ∷ 1 ∷ 3 ∷ 2 ∷ 0 ∷ []) $
             by ! (exits r is zs m₁ ms m₂ (e .1 .0, (e .1 .1 .0, h ∙ ap (λ (t : List Elected). written t (xe .now)) (e .1 .1 .1)))))
@@ -431,8 +435,8 @@ module _ (P Q : Plain) (answer : Q .row .Denot → P .row .Denot) (count : Q .ro
         -- before it, once the local array lies in memory as its elements
         abbrev Apart : List (List ℕ) → List (Item 𝓤)
         Apart ws =
-            ‵ (row (Entry electedWide) fullShare ws l₆ 0) ∷ ‵ Store ∷ ‵ (flft κ₁ q₁) ∷ ‵ First ∷ ‵ Second ∷ ‵ (flft κ₂ q₂) ∷ ‵ Lists ∷ ‵ (flft κ₃ q₃)
-            ∷ locals 𝓤 H En (empty ∷ given ++ away ∷ empty ∷ full (zeros electedWide) ∷ []) []
+            ‵ (row (Entry electedLength) fullShare ws l₆ 0) ∷ ‵ Store ∷ ‵ (flft κ₁ q₁) ∷ ‵ First ∷ ‵ Second ∷ ‵ (flft κ₂ q₂) ∷ ‵ Lists ∷ ‵ (flft κ₃ q₃)
+            ∷ locals 𝓤 H En (empty ∷ given ++ away ∷ empty ∷ full (zeros electedLength) ∷ []) []
 
         evaluates : (ws : List (List ℕ)) → length ws ≡ mostRecords → Sq W (Apart ws) (runs C Λ En (calls-callee callee filler) (atRet En Post))
         evaluates ws long =
@@ -446,7 +450,7 @@ module _ (P Q : Plain) (answer : Q .row .Denot → P .row .Denot) (count : Q .ro
             (init ! 20 refl (tt, (tt, (record { fits = lit< tt }, tt)))) $
             assigns ! (of-opd ! (load ! (from ! (fld ! refl (stop !))) (look-in ! 33 (sub ! 1 refl (whole !))))) (from ! (stop !))
             (init ! 18 refl (tt, record { fits = room₃ .0 })) $
-            lends-out (Entry electedWide) mostRecords l₆ ! tt (named 2) ws long words-room (λ ν δ.
+            lends-out (Entry electedLength) mostRecords l₆ ! tt (named 2) ws long words-room (λ ν δ.
             -- [what is lent; the lender's part; ν's token; what the store owns; its token; what the two own; their token; what
             -- the list owns; its token]
             nothing ! $ move ! (3 ∷ 0 ∷ []) $ join ! $ move ! (7 ∷ 0 ∷ []) $ join ! $ move ! (4 ∷ 0 ∷ []) $ join ! $
@@ -467,7 +471,7 @@ module _ (P Q : Plain) (answer : Q .row .Denot → P .row .Denot) (count : Q .ro
             rewrite ! 29 (λ (u : Val). ‵ (fat fullShare Returned l₇ 0 u)) (value Q r w is ∙ parts .spelt r) refl $
             move ! (3 ∷ []) $ split ! $ move ! (1 ∷ []) $ split ! $ move ! (1 ∷ []) $ split ! $
             -- [ν's token; true; the second token; the store's; the words' last list; the rest; the store's last list; the lender's part; …]
-            move ! (0 ∷ 7 ∷ 4 ∷ []) $ had-back (Entry electedWide) mostRecords l₆ ! tt (zs .1 .1 .1 .1 .0) $
+            move ! (0 ∷ 7 ∷ 4 ∷ []) $ had-back (Entry electedLength) mostRecords l₆ ! tt (zs .1 .1 .1 .1 .0) $
             -- [the words; true; the second token; the store's; the rest; the store's last list; what the list owns; its token; …]
             move ! (1 ∷ []) $ drop ! $ move ! (3 ∷ []) $ drop ! $ move ! (0 ∷ 4 ∷ 5 ∷ []) $
             writes r (stands Q r w is) (zs .0) m₁ (zs .1 .1 .1 .1 .0) (m₂ ∙ long) e)))))
@@ -479,12 +483,12 @@ module _ (P Q : Plain) (answer : Q .row .Denot → P .row .Denot) (count : Q .ro
         -- the local array is made of zeros
         body : Sq W Begun (runs C Λ En (makes-words callee filler) (atRet En Post))
         body =
-            zeroed ! electedWide mostRecords (λ one-typed all-typed.
-            assigns ! (rep ! electedWide (lit ! tt)) (from ! (stop !)) (init ! 28 refl one-typed) $
+            zeroed ! electedLength mostRecords (λ one-typed all-typed.
+            assigns ! (rep ! electedLength (lit ! tt)) (from ! (stop !)) (init ! 28 refl one-typed) $
             assigns ! (rep ! mostRecords (load ! (from ! (stop !)) (look ! 28 refl))) (from ! (stop !)) (init ! 32 refl all-typed) $
-            move ! (32 ∷ 0 ∷ []) $ use2 W (‵ (row (Entry electedWide) fullShare (blank electedWide mostRecords) l₆ 0))
-            (to-row 𝓤 H A W (Entry electedWide) mostRecords l₆ tt (blank electedWide mostRecords) (blankVal electedWide mostRecords)) $
-            evaluates (blank electedWide mostRecords) (blank-length electedWide mostRecords))
+            move ! (32 ∷ 0 ∷ []) $ use2 W (‵ (row (Entry electedLength) fullShare (blank electedLength mostRecords) l₆ 0))
+            (to-row 𝓤 H A W (Entry electedLength) mostRecords l₆ tt (blank electedLength mostRecords) (blankVal electedLength mostRecords)) $
+            evaluates (blank electedLength mostRecords) (blank-length electedLength mostRecords))
 
       -- what is needed of what is had at entry
       abbrev Needed : List (Item 𝓤)
@@ -519,7 +523,7 @@ module _ (P Q : Plain) (answer : Q .row .Denot → P .row .Denot) (count : Q .ro
 
   module _ {M : Type 1} (𝓤 : URA M) (H : Heap 𝓤) (A : Atoms 𝓤) (W : Given 𝓤 H A) (parts : Parts) (callee filler : Name) where
     walks : (C : Calls 𝓤 H) (Λ : Loops 𝓤 H) → FmC 𝓤 H (W .laws) C → Triple 𝓤 (C callee) (Evaluates 𝓤 H A)
-        → Triple 𝓤 (C filler) (Fills ElectedOf electedWide electedOf 𝓤 H A) → Walks 𝓤 H A ended stayed (WpFn 𝓤 H C Λ (code callee filler)) (clauses 𝓤)
+        → Triple 𝓤 (C filler) (Fills ElectedOf electedLength of 𝓤 H A) → Walks 𝓤 H A ended stayed (WpFn 𝓤 H C Λ (code callee filler)) (clauses 𝓤)
     walks C Λ fm known₁ known₂ = walked 𝓤 H A ended stayed (clauses 𝓤) (WpFn 𝓤 H C Λ (code callee filler))
         (λ κs. (
           slice-vals,
@@ -551,7 +555,7 @@ module _ (P Q : Plain) (answer : Q .row .Denot → P .row .Denot) (count : Q .ro
       ),
     )
 
-    pub meets : (𝓣 : Tables 𝓤 H) → Triple 𝓤 (𝓣 .C callee) (Evaluates 𝓤 H A) → Triple 𝓤 (𝓣 .C filler) (Fills ElectedOf electedWide electedOf 𝓤 H A)
+    pub meets : (𝓣 : Tables 𝓤 H) → Triple 𝓤 (𝓣 .C callee) (Evaluates 𝓤 H A) → Triple 𝓤 (𝓣 .C filler) (Fills ElectedOf electedLength of 𝓤 H A)
         → Meets 𝓤 H A signature (WpFn 𝓤 H (𝓣 .C) (𝓣 .Λ) (code callee filler)) (closing 𝓤 H A ended (clauses 𝓤))
     meets 𝓣 known₁ known₂ = walk-meets 𝓤 H A ended stayed W goes (clauses 𝓤) (WpFn 𝓤 H (𝓣 .C) (𝓣 .Λ) (code callee filler))
         (WpFn-mono 𝓤 H (W .laws) 𝓣 (code callee filler)) (walks (𝓣 .C) (𝓣 .Λ) (fmOf 𝓤 H (W .laws) 𝓣) known₁ known₂)

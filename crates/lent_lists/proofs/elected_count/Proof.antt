@@ -1,6 +1,6 @@
 -- `elected_count` meets its contract: each arm knows its variant.
 use Rattle.book.specs.Answers.{toldCounts}
-use Rattle.lent_lists.specs.Records.{electedCount}
+use Rattle.evaluation.specs.Counts.{electedCount}
 use borrow.Author.Needs.{needs}
 use borrow.Author.Needs.{needs}
 use Rattle.lent_lists.proofs.elected_count.Statement.{statement}

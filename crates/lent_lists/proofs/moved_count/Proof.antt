@@ -1,6 +1,6 @@
 -- `moved_count` meets its contract: each arm knows its variant.
 use Rattle.book.specs.Answers.{toldCounts}
-use Rattle.lent_lists.specs.Records.{movedCount}
+use Rattle.evaluation.specs.Counts.{movedCount}
 use borrow.Author.Needs.{needs}
 use borrow.Author.Needs.{needs}
 use Rattle.lent_lists.proofs.moved_count.Statement.{statement}

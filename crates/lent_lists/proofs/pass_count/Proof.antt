@@ -1,6 +1,6 @@
 -- `pass_count` meets its contract: each arm knows its variant.
 use Rattle.book.specs.Answers.{toldPass}
-use Rattle.lent_lists.specs.Records.{passCount}
+use Rattle.evaluation.specs.Counts.{passCount}
 use borrow.Author.Needs.{needs}
 use Rattle.lent_lists.proofs.pass_count.Statement.{statement}
 use Rattle.lent_lists.proofs.pass_count.Tie as tie

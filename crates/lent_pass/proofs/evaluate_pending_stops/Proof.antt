@@ -18,7 +18,7 @@ use Rattle.book.specs.declared.Settings.{Settings}
 use Rattle.book.specs.Answers.{toldPass}
 use Rattle.lent_lists.specs.Records.{electedOf}
 use Rattle.lent_pass.specs.declared.PassRun.{PassRun}
-use Rattle.walks.proofs.Constants.{electedWide}
+use Rattle.book.specs.Sizes.{electedLength}
 use Rattle.lent_lists.proofs.Cut.{Left}
 use Rattle·?.proofs.CutCalls.{passTo}
 use Rattle.walks.proofs.Evaluating.{Handed, plainly, numbers, Parts, Evaluates, meets}
@@ -55,7 +55,7 @@ module _ {M : Type 1} (𝓤 : URA M) (H : Heap 𝓤) (A : Atoms 𝓤) where
   Words = Evaluates PassedOf PassRunOf answer count numbers segment toldPass outcome 𝓤 H A
 
   abbrev Fill : Contract 𝓤
-  Fill = Fills ElectedOf electedWide electedOf 𝓤 H A
+  Fill = Fills ElectedOf electedLength electedOf 𝓤 H A
 
 pub evaluate-pending-stops-spec : {M : Type 1} → stated.statement M
 unfolding code.routine tablesOf

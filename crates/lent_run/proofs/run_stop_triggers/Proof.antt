@@ -52,7 +52,7 @@ use Rattle.book.specs.Answers.{toldPass}
 use Rattle.lent_lists.specs.Records.{electedOf}
 use Rattle.lent_run.specs.declared.TriggerRun.{TriggerRun}
 use Rattle.walks.proofs.Claims.{All, claimed}
-use Rattle.walks.proofs.Constants.{electedWide}
+use Rattle.book.specs.Sizes.{electedLength}
 use Rattle.walks.proofs.Plain.{word, value, stands, Stands}
 use Rattle.walks.proofs.Types.{PathOf, LastOf, SettingsOf, ElectedOf, PassedOf, TriggerRunOf, trigger-run-parts}
 use Rattle.walks.proofs.Lent.{has, lets-go, reads, shuts, answers}
@@ -160,7 +160,7 @@ module _ {M : Type 1} (𝓤 : URA M) (H : Heap 𝓤) (A : Atoms 𝓤) (W : Given
       alive₁ = ‵ (flft κ₁ q₁) ⊛ ‵ (flft κ₃ q₃) ⊛ ‵ (flft (ν ∷ []) fullShare) ⊛ ‵ ftrue
 
       abbrev Buffer : Fml
-      Buffer = MutSlice (named 2) (ν ∷ []) (Entry electedWide) .own (x δ ws) (sw ∷ [])
+      Buffer = MutSlice (named 2) (ν ∷ []) (Entry electedLength) .own (x δ ws) (sw ∷ [])
 
       abbrev to₁ : Words 𝓤 H A at-mem run .Ghost
       to₁ = (
@@ -228,7 +228,7 @@ module _ {M : Type 1} (𝓤 : URA M) (H : Heap 𝓤) (A : Atoms 𝓤) (W : Given
   module _ (C : Calls 𝓤 H) (Λ : Loops 𝓤 H) (fm : FmC 𝓤 H (W .laws) C) (known₁ : Triple 𝓤 (C #words) (Words 𝓤 H A at-mem run))
       (known₂ : Triple 𝓤 (C #fill) (Fill 𝓤 H A at-mem run)) (room₁ : Room u64 (length (xs .now))) (fits₂ : length (xp .now) < 2 ^ 64)
       (room₃ : Room R (length (xe .now))) where
-    room : Room (Entry electedWide) mostRecords
+    room : Room (Entry electedLength) mostRecords
     room = (lit< tt, lit< tt)
 
     module _ (l₀ l₁ l₂ l₃ l₄ l₅ l₆ l₇ l₈ l₉ l₁₀ l₁₁ l₁₂ l₁₃ l₁₄ l₁₅ l₁₆ l₁₇ l₁₈ l₁₉ l₂₀ : ℕ) where
@@ -240,20 +240,20 @@ module _ {M : Type 1} (𝓤 : URA M) (H : Heap 𝓤) (A : Atoms 𝓤) (W : Given
           ∷ (sliceTy (tyRef (named 2) imm (tyInt w64)), l₄)
           ∷ (LastOf .mir, l₅)
           ∷ (sliceTy (tyRef (named 3) mut (pointee (R .written))), l₆)
-          ∷ (tyArray (tyArray (tyInt w64) electedWide) mostRecords, l₇)
+          ∷ (tyArray (tyArray (tyInt w64) electedLength) mostRecords, l₇)
           ∷ (TriggerRunOf .mir, l₈)
-          ∷ (tyArray (tyInt w64) electedWide, l₉)
+          ∷ (tyArray (tyInt w64) electedLength, l₉)
           ∷ (tyRef erased mut (tyInt w64), l₁₀)
           ∷ (sliceTy (tyRef erased mut (tyInt w64)), l₁₁)
           ∷ (PathOf .mir, l₁₂)
-          ∷ (tyRef erased mut (tyArray (tyArray (tyInt w64) electedWide) mostRecords), l₁₃)
-          ∷ (sliceTy (tyRef erased mut (tyArray (tyInt w64) electedWide)), l₁₄)
+          ∷ (tyRef erased mut (tyArray (tyArray (tyInt w64) electedLength) mostRecords), l₁₃)
+          ∷ (sliceTy (tyRef erased mut (tyArray (tyInt w64) electedLength)), l₁₄)
           ∷ (tyInt w64, l₁₅)
           ∷ (tyUnit, l₁₆)
           ∷ (tyRef erased mut (pointee (R .written)), l₁₇)
           ∷ (sliceTy (tyRef erased mut (pointee (R .written))), l₁₈)
-          ∷ (tyRef erased imm (tyArray (tyArray (tyInt w64) electedWide) mostRecords), l₁₉)
-          ∷ (sliceTy (tyRef erased imm (tyArray (tyInt w64) electedWide)), l₂₀) ∷ []
+          ∷ (tyRef erased imm (tyArray (tyArray (tyInt w64) electedLength) mostRecords), l₁₉)
+          ∷ (sliceTy (tyRef erased imm (tyArray (tyInt w64) electedLength)), l₂₀) ∷ []
 
       -- the parameters' cells
       abbrev given : List Cell
@@ -262,7 +262,7 @@ module _ {M : Type 1} (𝓤 : URA M) (H : Heap 𝓤) (A : Atoms 𝓤) (W : Given
       -- the locals of the first call, and of the second
       abbrev first : Val → List Cell
       first r =
-          full r ∷ full (zeros electedWide) ∷ full (vptr (xs .ptr .0) (xs .ptr .1)) ∷ full s₁ ∷ full (PathOf .val h) ∷ full (vptr l₇ 0) ∷ full (sw l₇)
+          full r ∷ full (zeros electedLength) ∷ full (vptr (xs .ptr .0) (xs .ptr .1)) ∷ full s₁ ∷ full (PathOf .val h) ∷ full (vptr l₇ 0) ∷ full (sw l₇)
           ∷ full (vint w64 (length (xe .now))) ∷ []
 
       abbrev second : Val → List Cell
@@ -271,7 +271,7 @@ module _ {M : Type 1} (𝓤 : URA M) (H : Heap 𝓤) (A : Atoms 𝓤) (W : Given
       -- after the first call: the words are back, and the store's last list is had
       abbrev Got : TriggerRun → List ℕ → List (List ℕ) → List (Item 𝓤)
       Got r zs ws =
-          ‵ (row (Entry electedWide) fullShare ws l₇ 0) ∷ ‵ Lists ∷ ‵ (flft κ₄ q₄) ∷ ‵ (flft κ₃ q₃) ∷ ‵ (flft κ₁ q₁) ∷ ‵ (Path (r .path))
+          ‵ (row (Entry electedLength) fullShare ws l₇ 0) ∷ ‵ Lists ∷ ‵ (flft κ₄ q₄) ∷ ‵ (flft κ₃ q₃) ∷ ‵ (flft κ₁ q₁) ∷ ‵ (Path (r .path))
           ∷ ‵ (flft κ₂ q₂)
           ∷ ‵ (finally u64 (xs .name) zs) ∷ locals 𝓤 H En (empty ∷ given ++ away ∷ first (TriggerRunOf .val r)) []
 
@@ -289,7 +289,7 @@ module _ {M : Type 1} (𝓤 : URA M) (H : Heap 𝓤) (A : Atoms 𝓤) (W : Given
           (init ! 8 refl (tt, (tt, (record { fits = lit< tt }, tt)))) $
           -- in the call: [what it asks; the lender's part; the script's token; the store's; what says the path; its token; the store's last list;
           -- _20 (7); …]
-          fills R electedWide mostRecords electedOf xe l₇ ws (r .count) ! (e .0 .0, subst (λ (k : ℕ). r .count ≤ k) (sym long) (e .0 .1))
+          fills R electedLength mostRecords electedOf xe l₇ ws (r .count) ! (e .0 .0, subst (λ (k : ℕ). r .count ≤ k) (sym long) (e .0 .1))
           (trigger-run-parts r is .1 .1) long room fm (Fill 𝓤 H A at-mem run) known₂ (to₂ l₇ ws (r .count)) (λ ν δ. id⊢ 𝓤 _) (λ ν δ w. id⊢ 𝓤 _)
           (λ ν δ. and-then ! (load ! (from ! (stop !)) (look ! 11 refl)) (and-then ! (load ! (from ! (stop !)) (look ! 7 refl))
           (and-then ! (load ! (from ! (fld ! refl (stop !))) (look-in ! 31 (sub ! 2 refl (whole !)))) (no-more !)))) (λ w w-typed ms m₂ eq.
@@ -298,8 +298,8 @@ module _ {M : Type 1} (𝓤 : URA M) (H : Heap 𝓤) (A : Atoms 𝓤) (W : Given
           land ! (from ! (stop !)) (init ! 16 refl w-typed) $
           assigns ! (of-opd ! (load ! (from ! (fld ! refl (stop !))) (look-in ! 32 (sub ! 0 refl (whole !))))) (from ! (stop !))
           (init ! 47 refl (PassedOf .typed 𝓤 H A W (r .answer) _ (trigger-run-parts r is .0))) $
-          use1 W (‵ (froom (tyArray (tyArray (tyInt w64) electedWide) mostRecords) l₇ 0))
-          (row-room 𝓤 H A W (Entry electedWide) mostRecords l₇ ws long) $
+          use1 W (‵ (froom (tyArray (tyArray (tyInt w64) electedLength) mostRecords) l₇ 0))
+          (row-room 𝓤 H A W (Entry electedLength) mostRecords l₇ ws long) $
           returns ! (look ! 47 refl) $ frees-all ! 35 (full (PassedOf .val (r .answer)) ∷ given) tt refl $
           move ! (0 ∷ 34 ∷ []) $ free1 ! $ frees-all ! 7 (first (TriggerRunOf .val r) ++ second w) tt refl $ free0 ! $
           keep ! (6 ∷ 1 ∷ 4 ∷ 3 ∷ 5 ∷ 2 ∷ 0 ∷ []) $
@@ -311,9 +311,9 @@ module _ {M : Type 1} (𝓤 : URA M) (H : Heap 𝓤) (A : Atoms 𝓤) (W : Given
       -- before it, once the local array lies in memory as its elements
       abbrev Apart : List (List ℕ) → List (Item 𝓤)
       Apart ws =
-          ‵ (row (Entry electedWide) fullShare ws l₇ 0) ∷ ‵ (Path h) ∷ ‵ Borrow ∷ ‵ (flft κ₂ q₂) ∷ ‵ Store ∷ ‵ (flft κ₁ q₁) ∷ ‵ Script
+          ‵ (row (Entry electedLength) fullShare ws l₇ 0) ∷ ‵ (Path h) ∷ ‵ Borrow ∷ ‵ (flft κ₂ q₂) ∷ ‵ Store ∷ ‵ (flft κ₁ q₁) ∷ ‵ Script
           ∷ ‵ (flft κ₃ q₃)
-          ∷ ‵ Lists ∷ ‵ (flft κ₄ q₄) ∷ locals 𝓤 H En (empty ∷ given ++ away ∷ empty ∷ full (zeros electedWide) ∷ []) []
+          ∷ ‵ Lists ∷ ‵ (flft κ₄ q₄) ∷ locals 𝓤 H En (empty ∷ given ++ away ∷ empty ∷ full (zeros electedLength) ∷ []) []
 
       evaluates : (ws : List (List ℕ)) → length ws ≡ mostRecords → Sq W (Apart ws) (runs C Λ En text.t-3 (atRet En Post))
       evaluates ws long =
@@ -332,7 +332,7 @@ module _ {M : Type 1} (𝓤 : URA M) (H : Heap 𝓤) (A : Atoms 𝓤) (W : Given
           (init ! 23 refl (tt, (tt, (record { fits = lit< tt }, tt)))) $
           assigns ! (of-opd ! (load ! (from ! (fld ! refl (stop !))) (look-in ! 38 (sub ! 1 refl (whole !))))) (from ! (stop !))
           (init ! 21 refl (tt, record { fits = room₃ .0 })) $
-          move ! (4 ∷ []) $ lends-out (Entry electedWide) mostRecords l₇ ! tt (named 2) ws long room (λ ν δ.
+          move ! (4 ∷ []) $ lends-out (Entry electedLength) mostRecords l₇ ! tt (named 2) ws long room (λ ν δ.
           -- [what is lent; the lender's part; ν's token; the path's cell; the open borrow; what says it; auth; what the store owns; its token; what
           -- the script owns; its token; what the list owns; its token]
           nothing ! $ move ! (3 ∷ 0 ∷ []) $ join ! $ move ! (10 ∷ 0 ∷ []) $ join ! $ move ! (8 ∷ 0 ∷ []) $ join ! $
@@ -362,7 +362,7 @@ module _ {M : Type 1} (𝓤 : URA M) (H : Heap 𝓤) (A : Atoms 𝓤) (W : Given
           move ! (6 ∷ []) $ split ! $ move ! (1 ∷ []) $ split ! $ move ! (1 ∷ []) $ split ! $
           -- [ν's token; true; the script's token; the store's; what says the path; the borrow; its token; the words' last list; the rest; the store's
           -- last list; the lender's part; what the list owns; its token]
-          move ! (0 ∷ 10 ∷ 7 ∷ []) $ had-back (Entry electedWide) mostRecords l₇ ! tt (zs .1 .1 .1 .1 .1 .0) $
+          move ! (0 ∷ 10 ∷ 7 ∷ []) $ had-back (Entry electedLength) mostRecords l₇ ! tt (zs .1 .1 .1 .1 .1 .0) $
           -- [the words; true; the script's token; the store's; what says the path; the borrow; its token; the rest; the store's last list; what the
           -- list owns; its token]
           move ! (1 ∷ []) $ drop ! $ move ! (4 ∷ []) $ drop ! $ move ! (5 ∷ []) $ drop ! $ move ! (0 ∷ 6 ∷ 7 ∷ []) $
@@ -376,12 +376,12 @@ module _ {M : Type 1} (𝓤 : URA M) (H : Heap 𝓤) (A : Atoms 𝓤) (W : Given
       -- the local array is made of zeros
       body : Sq W Begun (runs C Λ En text.t-1 (atRet En Post))
       body =
-          zeroed ! electedWide mostRecords (λ one-typed all-typed.
-          assigns ! (rep ! electedWide (lit ! tt)) (from ! (stop !)) (init ! 32 refl one-typed) $
+          zeroed ! electedLength mostRecords (λ one-typed all-typed.
+          assigns ! (rep ! electedLength (lit ! tt)) (from ! (stop !)) (init ! 32 refl one-typed) $
           assigns ! (rep ! mostRecords (load ! (from ! (stop !)) (look ! 32 refl))) (from ! (stop !)) (init ! 36 refl all-typed) $
-          move ! (36 ∷ 0 ∷ []) $ use2 W (‵ (row (Entry electedWide) fullShare (blank electedWide mostRecords) l₇ 0))
-          (to-row 𝓤 H A W (Entry electedWide) mostRecords l₇ tt (blank electedWide mostRecords) (blankVal electedWide mostRecords)) $
-          evaluates (blank electedWide mostRecords) (blank-length electedWide mostRecords))
+          move ! (36 ∷ 0 ∷ []) $ use2 W (‵ (row (Entry electedLength) fullShare (blank electedLength mostRecords) l₇ 0))
+          (to-row 𝓤 H A W (Entry electedLength) mostRecords l₇ tt (blank electedLength mostRecords) (blankVal electedLength mostRecords)) $
+          evaluates (blank electedLength mostRecords) (blank-length electedLength mostRecords))
 
     -- what is needed of what is had at entry
     abbrev Needed : List (Item 𝓤)

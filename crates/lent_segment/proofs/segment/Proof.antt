@@ -49,7 +49,8 @@ use Rattle.book.specs.Answers.{toldCounts}
 use Rattle.lent_lists.specs.Records.{electedOf, movedOf}
 use Rattle.lent_segment.specs.declared.SegmentRun.{SegmentRun}
 use Rattle.walks.proofs.Claims.{All, claimed}
-use Rattle.walks.proofs.Constants.{electedWide, movedWide, mostMoves, large}
+use Rattle.book.specs.Sizes.{electedLength, movedLength}
+use Rattle.walks.proofs.Constants.{mostMoves, large}
 use Rattle.walks.proofs.Plain.{word, value, stands, Stands}
 use Rattle.walks.proofs.Types.{PrintsOf, SettingsOf, ElectedOf, MovedOf, EvaluatedOf, SegmentRunOf, segment-run-parts}
 use Rattle.walks.proofs.Lent.{has, answers}
@@ -152,10 +153,10 @@ module _ {M : Type 1} (𝓤 : URA M) (H : Heap 𝓤) (A : Atoms 𝓤) (W : Given
     alive₁ = ‵ (flft κ₁ q₁) ⊛ ‵ (flft (μ ∷ []) fullShare) ⊛ ‵ (flft (ν ∷ []) fullShare) ⊛ ‵ ftrue
 
     abbrev Fills : Fml
-    Fills = MutSlice (named 1) (μ ∷ []) (Entry electedWide) .own (x l₆ ε fills) (sw l₆ mostRecords ∷ [])
+    Fills = MutSlice (named 1) (μ ∷ []) (Entry electedLength) .own (x l₆ ε fills) (sw l₆ mostRecords ∷ [])
 
     abbrev Moves : Fml
-    Moves = MutSlice (named 2) (ν ∷ []) (Entry movedWide) .own (x l₇ δ moves) (sw l₇ mostMoves ∷ [])
+    Moves = MutSlice (named 2) (ν ∷ []) (Entry movedLength) .own (x l₇ δ moves) (sw l₇ mostMoves ∷ [])
 
     abbrev to₁ : Words 𝓤 H A at-mem run .Ghost
     to₁ = (
@@ -235,10 +236,10 @@ module _ {M : Type 1} (𝓤 : URA M) (H : Heap 𝓤) (A : Atoms 𝓤) (W : Given
   module _ (C : Calls 𝓤 H) (Λ : Loops 𝓤 H) (fm : FmC 𝓤 H (W .laws) C) (known₁ : Triple 𝓤 (C #words) (Words 𝓤 H A at-mem run))
       (known₂ : Triple 𝓤 (C #fill₂) (Fill₂ 𝓤 H A at-mem run)) (known₃ : Triple 𝓤 (C #fill₃) (Fill₃ 𝓤 H A at-mem run))
       (room₁ : Room u64 (length (xs .now))) (room₂ : Room R (length (xe .now))) (room₃ : Room S (length (xm .now))) where
-    fills-room : Room (Entry electedWide) mostRecords
+    fills-room : Room (Entry electedLength) mostRecords
     fills-room = (lit< tt, lit< tt)
 
-    moves-room : Room (Entry movedWide) mostMoves
+    moves-room : Room (Entry movedLength) mostMoves
     moves-room = (lit< tt, lit< tt)
 
     module _ (l₀ l₁ l₂ l₃ l₄ l₅ l₆ l₇ l₈ l₉ l₁₀ l₁₁ l₁₂ l₁₃ l₁₄ l₁₅ l₁₆ l₁₇ l₁₈ l₁₉ l₂₀ l₂₁ l₂₂ l₂₃ l₂₄ l₂₅ l₂₆ l₂₇ : ℕ) where
@@ -249,28 +250,28 @@ module _ {M : Type 1} (𝓤 : URA M) (H : Heap 𝓤) (A : Atoms 𝓤) (W : Given
           ∷ (PrintsOf .mir, l₃)
           ∷ (sliceTy (tyRef (named 1) mut (pointee (R .written))), l₄)
           ∷ (sliceTy (tyRef (named 2) mut (pointee (S .written))), l₅)
-          ∷ (tyArray (tyArray (tyInt w64) electedWide) mostRecords, l₆)
-          ∷ (tyArray (tyArray (tyInt w64) movedWide) mostMoves, l₇)
+          ∷ (tyArray (tyArray (tyInt w64) electedLength) mostRecords, l₆)
+          ∷ (tyArray (tyArray (tyInt w64) movedLength) mostMoves, l₇)
           ∷ (SegmentRunOf .mir, l₈)
-          ∷ (tyArray (tyInt w64) electedWide, l₉)
-          ∷ (tyArray (tyInt w64) movedWide, l₁₀)
+          ∷ (tyArray (tyInt w64) electedLength, l₉)
+          ∷ (tyArray (tyInt w64) movedLength, l₁₀)
           ∷ (tyRef erased mut (tyInt w64), l₁₁)
           ∷ (sliceTy (tyRef erased mut (tyInt w64)), l₁₂)
-          ∷ (tyRef erased mut (tyArray (tyArray (tyInt w64) electedWide) mostRecords), l₁₃)
-          ∷ (sliceTy (tyRef erased mut (tyArray (tyInt w64) electedWide)), l₁₄)
+          ∷ (tyRef erased mut (tyArray (tyArray (tyInt w64) electedLength) mostRecords), l₁₃)
+          ∷ (sliceTy (tyRef erased mut (tyArray (tyInt w64) electedLength)), l₁₄)
           ∷ (tyInt w64, l₁₅)
-          ∷ (tyRef erased mut (tyArray (tyArray (tyInt w64) movedWide) mostMoves), l₁₆)
-          ∷ (sliceTy (tyRef erased mut (tyArray (tyInt w64) movedWide)), l₁₇)
+          ∷ (tyRef erased mut (tyArray (tyArray (tyInt w64) movedLength) mostMoves), l₁₆)
+          ∷ (sliceTy (tyRef erased mut (tyArray (tyInt w64) movedLength)), l₁₇)
           ∷ (tyInt w64, l₁₈)
           ∷ (tyUnit, l₁₉)
           ∷ (tyRef erased mut (pointee (R .written)), l₂₀)
           ∷ (sliceTy (tyRef erased mut (pointee (R .written))), l₂₁)
-          ∷ (tyRef erased imm (tyArray (tyArray (tyInt w64) electedWide) mostRecords), l₂₂)
-          ∷ (sliceTy (tyRef erased imm (tyArray (tyInt w64) electedWide)), l₂₃)
+          ∷ (tyRef erased imm (tyArray (tyArray (tyInt w64) electedLength) mostRecords), l₂₂)
+          ∷ (sliceTy (tyRef erased imm (tyArray (tyInt w64) electedLength)), l₂₃)
           ∷ (tyRef erased mut (pointee (S .written)), l₂₄)
           ∷ (sliceTy (tyRef erased mut (pointee (S .written))), l₂₅)
-          ∷ (tyRef erased imm (tyArray (tyArray (tyInt w64) movedWide) mostMoves), l₂₆)
-          ∷ (sliceTy (tyRef erased imm (tyArray (tyInt w64) movedWide)), l₂₇) ∷ []
+          ∷ (tyRef erased imm (tyArray (tyArray (tyInt w64) movedLength) mostMoves), l₂₆)
+          ∷ (sliceTy (tyRef erased imm (tyArray (tyInt w64) movedLength)), l₂₇) ∷ []
 
       -- the parameters' cells
       abbrev given : List Cell
@@ -279,7 +280,7 @@ module _ {M : Type 1} (𝓤 : URA M) (H : Heap 𝓤) (A : Atoms 𝓤) (W : Given
       -- the locals of the first call, and of the second
       abbrev first : Val → List Cell
       first r =
-          full r ∷ full (zeros electedWide) ∷ full (zeros movedWide) ∷ full (vptr (xs .ptr .0) (xs .ptr .1)) ∷ full s₁
+          full r ∷ full (zeros electedLength) ∷ full (zeros movedLength) ∷ full (vptr (xs .ptr .0) (xs .ptr .1)) ∷ full s₁
           ∷ full (vptr l₆ 0) ∷ full (sw l₆ mostRecords) ∷ full (vint w64 (length (xe .now)))
           ∷ full (vptr l₇ 0) ∷ full (sw l₇ mostMoves) ∷ full (vint w64 (length (xm .now))) ∷ []
 
@@ -292,7 +293,7 @@ module _ {M : Type 1} (𝓤 : URA M) (H : Heap 𝓤) (A : Atoms 𝓤) (W : Given
       -- after the second call: the elected are written
       abbrev Put : SegmentRun → List ℕ → List (List ℕ) → List (List ℕ) → List Elected → List (Item 𝓤)
       Put r zs fs vs es =
-          ‵ (row (Entry electedWide) fullShare fs l₆ 0) ∷ ‵ (flft κ₂ q₂) ∷ ‵ (finally R (xe .name) es) ∷ ‵ (row (Entry movedWide) fullShare vs l₇ 0)
+          ‵ (row (Entry electedLength) fullShare fs l₆ 0) ∷ ‵ (flft κ₂ q₂) ∷ ‵ (finally R (xe .name) es) ∷ ‵ (row (Entry movedLength) fullShare vs l₇ 0)
           ∷ ‵ (flft κ₁ q₁) ∷ ‵ (finally u64 (xs .name) zs) ∷ ‵ Moveds ∷ ‵ (flft κ₃ q₃)
           ∷ locals 𝓤 H En (empty ∷ given ++ away ∷ away ∷ first (SegmentRunOf .val r) ++ empty ∷ second) []
 
@@ -310,7 +311,7 @@ module _ {M : Type 1} (𝓤 : URA M) (H : Heap 𝓤) (A : Atoms 𝓤) (W : Given
           (from ! (stop !)) (init ! 8 refl (tt, (tt, (record { fits = lit< tt }, tt)))) $
           -- in the call: [what it asks; the lender's part; the elected's words; their token; their last list; the store's token; its last list;
           -- _27 (7); …]
-          move ! (3 ∷ 6 ∷ 7 ∷ []) $ fills S movedWide mostMoves movedOf xm l₇ vs (r .moved) !
+          move ! (3 ∷ 6 ∷ 7 ∷ []) $ fills S movedLength mostMoves movedOf xm l₇ vs (r .moved) !
           (e .0 .1 .0, subst (λ (j : ℕ). r .moved ≤ j) (sym longv) (e .0 .1 .1)) (segment-run-parts r is .1 .1)
           longv moves-room fm (Fill₃ 𝓤 H A at-mem run) known₃ (to₃ l₇ vs (r .moved)) (λ ν δ. id⊢ 𝓤 _) (λ ν δ w. id⊢ 𝓤 _)
           (λ ν δ. and-then ! (load ! (from ! (stop !)) (look ! 11 refl)) (and-then ! (load ! (from ! (stop !)) (look ! 7 refl))
@@ -320,10 +321,10 @@ module _ {M : Type 1} (𝓤 : URA M) (H : Heap 𝓤) (A : Atoms 𝓤) (W : Given
           land ! (from ! (stop !)) (init ! 24 refl w-typed) $
           assigns ! (of-opd ! (load ! (from ! (fld ! refl (stop !))) (look-in ! 46 (sub ! 0 refl (whole !))))) (from ! (stop !))
           (init ! 60 refl (EvaluatedOf .typed 𝓤 H A W (r .answer) _ (segment-run-parts r is .0))) $
-          use1 W (‵ (froom (tyArray (tyArray (tyInt w64) movedWide) mostMoves) l₇ 0)) (row-room 𝓤 H A W (Entry movedWide) mostMoves l₇ vs longv) $
+          use1 W (‵ (froom (tyArray (tyArray (tyInt w64) movedLength) mostMoves) l₇ 0)) (row-room 𝓤 H A W (Entry movedLength) mostMoves l₇ vs longv) $
           move ! (3 ∷ []) $
-          use1 W (‵ (froom (tyArray (tyArray (tyInt w64) electedWide) mostRecords) l₆ 0))
-          (row-room 𝓤 H A W (Entry electedWide) mostRecords l₆ fs longf) $
+          use1 W (‵ (froom (tyArray (tyArray (tyInt w64) electedLength) mostRecords) l₆ 0))
+          (row-room 𝓤 H A W (Entry electedLength) mostRecords l₆ fs longf) $
           returns ! (look ! 60 refl) $ frees-all ! 50 (full (EvaluatedOf .val (r .answer)) ∷ given) tt refl $
           move ! (0 ∷ 49 ∷ []) $ free1 ! $ move ! (0 ∷ 47 ∷ []) $ free1 ! $
           frees-all ! 6 (first (SegmentRunOf .val r) ++ full w ∷ second ++ third) tt refl $ free0 ! $
@@ -341,7 +342,7 @@ module _ {M : Type 1} (𝓤 : URA M) (H : Heap 𝓤) (A : Atoms 𝓤) (W : Given
       -- after the first call: the words are back, and the store's last list is had
       abbrev Got : SegmentRun → List ℕ → List (List ℕ) → List (List ℕ) → List (Item 𝓤)
       Got r zs fs vs =
-          ‵ (row (Entry electedWide) fullShare fs l₆ 0) ∷ ‵ Electeds ∷ ‵ (flft κ₂ q₂) ∷ ‵ (row (Entry movedWide) fullShare vs l₇ 0) ∷ ‵ (flft κ₁ q₁)
+          ‵ (row (Entry electedLength) fullShare fs l₆ 0) ∷ ‵ Electeds ∷ ‵ (flft κ₂ q₂) ∷ ‵ (row (Entry movedLength) fullShare vs l₇ 0) ∷ ‵ (flft κ₁ q₁)
           ∷ ‵ (finally u64 (xs .name) zs) ∷ ‵ Moveds ∷ ‵ (flft κ₃ q₃)
           ∷ locals 𝓤 H En (empty ∷ given ++ away ∷ away ∷ first (SegmentRunOf .val r)) []
 
@@ -358,7 +359,7 @@ module _ {M : Type 1} (𝓤 : URA M) (H : Heap 𝓤) (A : Atoms 𝓤) (W : Given
           (init ! 16 refl (tt, (tt, (record { fits = lit< tt }, tt)))) $
           -- in the call: [what it asks; the lender's part; the moved's words; the store's token; its last list; what the moved own; their token;
           -- _27 (7); …]
-          fills R electedWide mostRecords electedOf xe l₆ fs (r .elected) ! (e .0 .0 .0, subst (λ (j : ℕ). r .elected ≤ j) (sym longf) (e .0 .0 .1))
+          fills R electedLength mostRecords electedOf xe l₆ fs (r .elected) ! (e .0 .0 .0, subst (λ (j : ℕ). r .elected ≤ j) (sym longf) (e .0 .0 .1))
           (segment-run-parts r is .1 .0) longf fills-room fm (Fill₂ 𝓤 H A at-mem run) known₂ (to₂ l₆ fs (r .elected)) (λ ν δ. id⊢ 𝓤 _)
           (λ ν δ w. id⊢ 𝓤 _) (λ ν δ. and-then ! (load ! (from ! (stop !)) (look ! 19 refl)) (and-then ! (load ! (from ! (stop !)) (look ! 15 refl))
           (and-then ! (load ! (from ! (fld ! refl (stop !))) (look-in ! 45 (sub ! 1 refl (whole !)))) (no-more !)))) (λ w w-typed es m h.
@@ -367,9 +368,9 @@ module _ {M : Type 1} (𝓤 : URA M) (H : Heap 𝓤) (A : Atoms 𝓤) (W : Given
       -- the local arrays, taken apart
       abbrev Apart : List (List ℕ) → List (List ℕ) → List (Item 𝓤)
       Apart fs vs =
-          ‵ (row (Entry movedWide) fullShare vs l₇ 0) ∷ ‵ (row (Entry electedWide) fullShare fs l₆ 0) ∷ ‵ Store ∷ ‵ (flft κ₁ q₁) ∷ ‵ Electeds
+          ‵ (row (Entry movedLength) fullShare vs l₇ 0) ∷ ‵ (row (Entry electedLength) fullShare fs l₆ 0) ∷ ‵ Store ∷ ‵ (flft κ₁ q₁) ∷ ‵ Electeds
           ∷ ‵ (flft κ₂ q₂) ∷ ‵ Moveds ∷ ‵ (flft κ₃ q₃)
-          ∷ locals 𝓤 H En (empty ∷ given ++ away ∷ away ∷ empty ∷ full (zeros electedWide) ∷ full (zeros movedWide) ∷ []) []
+          ∷ locals 𝓤 H En (empty ∷ given ++ away ∷ away ∷ empty ∷ full (zeros electedLength) ∷ full (zeros movedLength) ∷ []) []
 
       evaluates : (fs vs : List (List ℕ)) → length fs ≡ mostRecords → length vs ≡ mostMoves
           → Sq W (Apart fs vs) (runs C Λ En text.t-5 (atRet En Post))
@@ -389,8 +390,8 @@ module _ {M : Type 1} (𝓤 : URA M) (H : Heap 𝓤) (A : Atoms 𝓤) (W : Given
           (from ! (stop !)) (init ! 28 refl (tt, (tt, (record { fits = lit< tt }, tt)))) $
           assigns ! (of-opd ! (load ! (from ! (fld ! refl (stop !))) (look-in ! 50 (sub ! 1 refl (whole !))))) (from ! (stop !))
           (init ! 26 refl (tt, record { fits = room₃ .0 })) $
-          lends-out (Entry movedWide) mostMoves l₇ ! tt (named 2) vs longv moves-room (λ ν δ.
-          move ! (3 ∷ []) $ lends-out (Entry electedWide) mostRecords l₆ ! tt (named 1) fs longf fills-room (λ μ ε.
+          lends-out (Entry movedLength) mostMoves l₇ ! tt (named 2) vs longv moves-room (λ ν δ.
+          move ! (3 ∷ []) $ lends-out (Entry electedLength) mostRecords l₆ ! tt (named 1) fs longf fills-room (λ μ ε.
           -- [what is lent for the elected; the lender's part; μ's token; what is lent for the moved; the lender's part; ν's
           -- token; what the store owns;
           -- its token; what the elected own; their token; what the moved own; their token]
@@ -413,8 +414,8 @@ module _ {M : Type 1} (𝓤 : URA M) (H : Heap 𝓤) (A : Atoms 𝓤) (W : Given
           rewrite ! 49 (λ (u : Val). ‵ (fat fullShare (SegmentRunOf .mir) l₈ 0 u)) (value SegmentRunOf r w is) refl $
           move ! (4 ∷ []) $ split ! $ move ! (1 ∷ []) $ split ! $ move ! (1 ∷ []) $ split ! $
           -- [ν's token; true; μ's; the store's; the moved's last words; the rest; the elected's; the store's last list; the lender's parts; …]
-          move ! (0 ∷ 9 ∷ 4 ∷ []) $ had-back (Entry movedWide) mostMoves l₇ ! tt (zs .1 .1 .1 .1 .1 .0) $
-          move ! (2 ∷ 7 ∷ 5 ∷ []) $ had-back (Entry electedWide) mostRecords l₆ ! tt (zs .1 .1 .1 .0) $
+          move ! (0 ∷ 9 ∷ 4 ∷ []) $ had-back (Entry movedLength) mostMoves l₇ ! tt (zs .1 .1 .1 .1 .1 .0) $
+          move ! (2 ∷ 7 ∷ 5 ∷ []) $ had-back (Entry electedLength) mostRecords l₆ ! tt (zs .1 .1 .1 .0) $
           -- [the elected's words; the moved's; true; the store's token; the rest; its last list; what the elected own; their token; …]
           move ! (2 ∷ []) $ drop ! $ move ! (3 ∷ []) $ drop ! $ move ! (0 ∷ 4 ∷ 5 ∷ []) $
           writes r (stands SegmentRunOf r w is) (zs .0) m₁ (zs .1 .1 .1 .0) (zs .1 .1 .1 .1 .1 .0) (m₂ ∙ longf) (m₃ ∙ longv) e)))))))
@@ -426,18 +427,18 @@ module _ {M : Type 1} (𝓤 : URA M) (H : Heap 𝓤) (A : Atoms 𝓤) (W : Given
       -- the local arrays are made of zeros
       body : Sq W Begun (runs C Λ En text.t-1 (atRet En Post))
       body =
-          zeroed ! electedWide mostRecords (λ one-typed all-typed.
-          assigns ! (rep ! electedWide (lit ! tt)) (from ! (stop !)) (init ! 43 refl one-typed) $
+          zeroed ! electedLength mostRecords (λ one-typed all-typed.
+          assigns ! (rep ! electedLength (lit ! tt)) (from ! (stop !)) (init ! 43 refl one-typed) $
           assigns ! (rep ! mostRecords (load ! (from ! (stop !)) (look ! 43 refl))) (from ! (stop !)) (init ! 49 refl all-typed) $
-          move ! (49 ∷ 0 ∷ []) $ use2 W (‵ (row (Entry electedWide) fullShare (blank electedWide mostRecords) l₆ 0))
-          (to-row 𝓤 H A W (Entry electedWide) mostRecords l₆ tt (blank electedWide mostRecords) (blankVal electedWide mostRecords)) $
-          zeroed ! movedWide mostMoves (λ one-typed′ all-typed′.
-          assigns ! (rep ! movedWide (lit ! tt)) (from ! (stop !)) (init ! 42 refl one-typed′) $
+          move ! (49 ∷ 0 ∷ []) $ use2 W (‵ (row (Entry electedLength) fullShare (blank electedLength mostRecords) l₆ 0))
+          (to-row 𝓤 H A W (Entry electedLength) mostRecords l₆ tt (blank electedLength mostRecords) (blankVal electedLength mostRecords)) $
+          zeroed ! movedLength mostMoves (λ one-typed′ all-typed′.
+          assigns ! (rep ! movedLength (lit ! tt)) (from ! (stop !)) (init ! 42 refl one-typed′) $
           assigns ! (rep ! mostMoves (load ! (from ! (stop !)) (look ! 42 refl))) (from ! (stop !)) (init ! 48 refl all-typed′) $
-          move ! (48 ∷ 0 ∷ []) $ use2 W (‵ (row (Entry movedWide) fullShare (blank movedWide mostMoves) l₇ 0))
-          (to-row 𝓤 H A W (Entry movedWide) mostMoves l₇ tt (blank movedWide mostMoves) (blankVal movedWide mostMoves)) $
-          evaluates (blank electedWide mostRecords) (blank movedWide mostMoves) (blank-length electedWide mostRecords)
-          (blank-length movedWide mostMoves)))
+          move ! (48 ∷ 0 ∷ []) $ use2 W (‵ (row (Entry movedLength) fullShare (blank movedLength mostMoves) l₇ 0))
+          (to-row 𝓤 H A W (Entry movedLength) mostMoves l₇ tt (blank movedLength mostMoves) (blankVal movedLength mostMoves)) $
+          evaluates (blank electedLength mostRecords) (blank movedLength mostMoves) (blank-length electedLength mostRecords)
+          (blank-length movedLength mostMoves)))
 
     -- what is needed of what is had at entry
     abbrev Needed : List (Item 𝓤)

@@ -26,10 +26,10 @@ use Rattle.walks.proofs.Plain.{Stands, value, stands}
 use Rattle.walks.proofs.Types.{PathOf, LayoutOf, ClearedOf, cleared-parts}
 use Rattle.walks.proofs.Frame.{full, frees-all}
 use Rattle.walks.proofs.Lent.{has, lets-go, reads, shuts, answers, asks-with, meets}
-use Rattle.admission.proofs.clear as callee
-use Rattle.admission.proofs.clear.Symbol as callee-def
-use Rattle.admission.proofs.clear.Symbol.{name as #callee}
-use Rattle.admission.proofs.clear.Met as callee-thm
+use Rattle.store_calls.proofs.clear as callee
+use Rattle.store_calls.proofs.clear.Symbol as callee-def
+use Rattle.store_calls.proofs.clear.Symbol.{name as #callee}
+use Rattle.store_calls.proofs.clear.Met as callee-thm
 use Rattle.lent_store.proofs.clear.Key.{name as #clear}
 use Rattle.lent_store.proofs.clear as f
 use Rattle.lent_store.proofs.clear.Statement as stated
@@ -142,4 +142,4 @@ clear-spec 𝓤 H 𝓜 𝓖 𝓡 =
     (meets 𝓤 H (𝓖 .A) (givenOf 𝓤 H 𝓜 𝓖) f.ended stayed (goes 𝓤 H (𝓖 .A) (givenOf 𝓤 H 𝓜 𝓖))
     (f.clauses 𝓤 H (𝓖 .A) (𝓜 .mem) (𝓡 .run)) code.function #callee (Callee 𝓤 H (𝓖 .A) (𝓜 .mem) (𝓡 .run))
     (walks 𝓤 H (𝓖 .A) (givenOf 𝓤 H 𝓜 𝓖) (𝓜 .mem) (𝓡 .run)) (tablesOf 𝓤 H 𝓜 (tables 𝓤 H 𝓜 𝓡 code.env))
-    (cited 𝓤 H (Callee 𝓤 H (𝓖 .A) (𝓜 .mem) (𝓡 .run)) 𝓜 𝓡 code.env #callee callee-def.routine code.calls-admission·clear (callee-thm.met 𝓤 H 𝓜 𝓖 𝓡)))
+    (cited 𝓤 H (Callee 𝓤 H (𝓖 .A) (𝓜 .mem) (𝓡 .run)) 𝓜 𝓡 code.env #callee callee-def.routine code.calls-store-calls·clear (callee-thm.met 𝓤 H 𝓜 𝓖 𝓡)))

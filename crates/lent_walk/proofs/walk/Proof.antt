@@ -19,7 +19,7 @@ use Rattle.book.specs.Answers.{toldCounts}
 use Rattle.pricelevel.specs.Price.{toPrice}
 use Rattle.lent_lists.specs.Records.{electedOf}
 use Rattle.lent_walk.specs.declared.Run.{Run}
-use Rattle.walks.proofs.Constants.{electedWide}
+use Rattle.book.specs.Sizes.{electedLength}
 use Rattle.lent_lists.proofs.Cut.{Left}
 use Rattle·?.proofs.CutCalls.{walkTo}
 use Rattle.walks.proofs.Evaluating.{Handed, plainly, numbers, Parts, Evaluates, meets}
@@ -56,7 +56,7 @@ module _ {M : Type 1} (𝓤 : URA M) (H : Heap 𝓤) (A : Atoms 𝓤) where
   Words = Evaluates EvaluatedOf RunOf answer count prev numbers toldCounts outcome 𝓤 H A
 
   abbrev Fill : Contract 𝓤
-  Fill = Fills ElectedOf electedWide electedOf 𝓤 H A
+  Fill = Fills ElectedOf electedLength electedOf 𝓤 H A
 
 pub walk-spec : {M : Type 1} → stated.statement M
 unfolding code.routine tablesOf
