@@ -7,8 +7,8 @@ use book::PassAnswer;
 use book::PrintSegment;
 use book::Settings;
 use lent_lists::fill_elected;
-use lent_lists::least;
-use lent_lists::pass_count;
+use word_rooms::least;
+use word_rooms::pass_count;
 ghost use Prim.Native.Nat.{_≤_};
 ghost use mathlib.Core.List.{map};
 ghost use mathlib.Core.Path.{_≡_};
@@ -16,7 +16,7 @@ ghost use lib.ListN.{length, take as firsts};
 ghost use Rattle.book.specs.Answers.{toldPass};
 ghost use Rattle.book.specs.Calls.{written, passCall};
 ghost use Rattle.book.specs.Sizes.{mostRecords};
-ghost use Rattle.lent_lists.specs.Records.{electedOf};
+ghost use Rattle.entry_records.specs.Records.{electedOf};
 
 // A pass's answer, and how many entries it put on its list.
 struct PassRun {

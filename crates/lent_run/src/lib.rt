@@ -9,8 +9,8 @@ use book::PrintPath;
 use book::Settings;
 use book::StopRun;
 use lent_lists::fill_elected;
-use lent_lists::least;
-use lent_lists::pass_count;
+use word_rooms::least;
+use word_rooms::pass_count;
 ghost use Prim.Native.Nat.{_≤_};
 ghost use mathlib.Core.List.{map};
 ghost use mathlib.Core.Path.{_≡_};
@@ -18,7 +18,7 @@ ghost use lib.ListN.{length, take as firsts};
 ghost use Rattle.book.specs.Answers.{toldPass};
 ghost use Rattle.book.specs.Calls.{written, runCall};
 ghost use Rattle.book.specs.Sizes.{mostRecords};
-ghost use Rattle.lent_lists.specs.Records.{electedOf};
+ghost use Rattle.entry_records.specs.Records.{electedOf};
 ghost use Rattle.lent_run.specs.Runs.{toldRun, ranTo};
 
 // The path that a run begins with, and the last trade.

@@ -10,11 +10,11 @@ use book::Moved;
 use book::MovedWords;
 use book::PrintSegment;
 use book::Settings;
-use lent_lists::elected_count;
+use word_rooms::elected_count;
 use lent_lists::fill_elected;
 use lent_lists::fill_moved;
-use lent_lists::least;
-use lent_lists::moved_count;
+use word_rooms::least;
+use word_rooms::moved_count;
 ghost use Prim.Native.Nat.{_≤_, _*_};
 ghost use mathlib.Core.List.{map};
 ghost use mathlib.Core.Path.{_≡_};
@@ -22,7 +22,7 @@ ghost use lib.ListN.{length, take as firsts};
 ghost use Rattle.book.specs.Answers.{toldCounts};
 ghost use Rattle.book.specs.Calls.{written, segmentCall};
 ghost use Rattle.book.specs.Sizes.{mostRecords};
-ghost use Rattle.lent_lists.specs.Records.{electedOf, movedOf};
+ghost use Rattle.entry_records.specs.Records.{electedOf, movedOf};
 
 // A segment's answer, and how many entries it put on its lists.
 struct SegmentRun {

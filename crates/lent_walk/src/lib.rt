@@ -6,9 +6,9 @@ use book::EvaluationAnswer;
 use book::LastPrice;
 use book::MOST_RECORDS;
 use book::Settings;
-use lent_lists::elected_count;
+use word_rooms::elected_count;
 use lent_lists::fill_elected;
-use lent_lists::least;
+use word_rooms::least;
 ghost use Prim.Native.Nat.{_≤_};
 ghost use mathlib.Core.List.{map};
 ghost use mathlib.Core.Path.{_≡_};
@@ -16,7 +16,7 @@ ghost use lib.ListN.{length, take as firsts};
 ghost use Rattle.book.specs.Answers.{toldCounts};
 ghost use Rattle.book.specs.Calls.{written, walkCall};
 ghost use Rattle.book.specs.Sizes.{mostRecords};
-ghost use Rattle.lent_lists.specs.Records.{electedOf};
+ghost use Rattle.entry_records.specs.Records.{electedOf};
 ghost use Rattle.pricelevel.specs.Price.{toPrice};
 
 // An evaluation's answer, and how many entries it put on its list.

@@ -16,14 +16,18 @@ use Rattle.book.specs.declared.PassCounts.{PassCounts}
 use Rattle.book.specs.declared.PrintSegment.{PrintSegment}
 use Rattle.book.specs.declared.Settings.{Settings}
 use Rattle.book.specs.Answers.{toldPass}
-use Rattle.lent_lists.specs.Records.{electedOf}
+use Rattle.entry_records.specs.Records.{electedOf}
 use Rattle.lent_pass.specs.declared.PassRun.{PassRun}
 use Rattle.book.specs.Sizes.{electedLength}
-use Rattle.lent_lists.proofs.Cut.{Left}
-use Rattle·?.proofs.CutCalls.{passTo}
-use Rattle.walks.proofs.Evaluating.{Handed, plainly, numbers, Parts, Evaluates, meets}
+use Rattle.word_rooms.proofs.Cut.{ofList}
+use Rattle.book.specs.Calls.{passCall}
+use Rattle.walks.proofs.Evaluating.{Left, Handed, plainly, numbers, Parts, Evaluates, meets}
 use Rattle.walks.proofs.Filling.{Fills}
-use Rattle.walks.proofs.Types.{PrintsOf, ElectedOf, PassedOf, PassRunOf, pass-run-parts}
+use denote.Struct.Laws.{owed}
+use Rattle.lent_pass.proofs.PassRun as run
+use Rattle.lent_pass.proofs.PassRun.Laws as run′
+use Rattle.walks.proofs.Plain.{Plain, Stands, word, struct}
+use Rattle.walks.proofs.Types.{PrintsOf, ElectedOf, PassedOf}
 use Rattle.lent_pass.proofs.pass_words.Symbol as words-def
 use Rattle.lent_pass.proofs.pass_words.Symbol.{name as #words}
 use Rattle.lent_pass.proofs.pass_words.Met as words-thm
@@ -35,6 +39,9 @@ use Rattle.lent_pass.proofs.evaluate_pending_stops as f
 use Rattle.lent_pass.proofs.evaluate_pending_stops.Statement as stated
 use Rattle.lent_pass.proofs.evaluate_pending_stops.Code as code
 
+abbrev PassRunOf : Plain
+PassRunOf = struct run.the-type run′.the-laws run′.the-plain (λ d l. refl)
+
 abbrev answer : PassRun → PassedOf .row .Denot
 answer r = r .answer
 
@@ -45,14 +52,14 @@ abbrev segment : Handed
 segment = plainly PrintsOf (λ d. tt)
 
 abbrev outcome : (κ : Lft) → Settings → RefT (List ℕ) → PrintSegment → List ℕ → ℕ → Left (Answer PassCounts)
-outcome κ settings script prints w room = passTo settings (script .now) prints w room
+outcome κ settings script prints w room = ofList (passCall settings (script .now) prints w room)
 
-parts : Parts PassedOf PassRunOf answer count numbers segment toldPass outcome
-parts = record { shaped = refl; spelt = λ r. refl; stand = pass-run-parts }
+parts : Parts electedOf PassedOf PassRunOf answer count numbers segment toldPass outcome
+parts = record { shaped = refl; spelt = λ r. refl; stand = λ r is. (owed run.the-type run′.the-laws r _ is .0, owed run.the-type run′.the-laws r _ is .1 .0) }
 
 module _ {M : Type 1} (𝓤 : URA M) (H : Heap 𝓤) (A : Atoms 𝓤) where
   abbrev Words : Contract 𝓤
-  Words = Evaluates PassedOf PassRunOf answer count numbers segment toldPass outcome 𝓤 H A
+  Words = Evaluates electedOf PassedOf PassRunOf answer count numbers segment toldPass outcome 𝓤 H A
 
   abbrev Fill : Contract 𝓤
   Fill = Fills ElectedOf electedLength electedOf 𝓤 H A
@@ -62,7 +69,7 @@ unfolding code.routine tablesOf
 evaluate-pending-stops-spec 𝓤 H 𝓜 𝓖 𝓡 =
     entered 𝓤 H (tripleOf 𝓤 H (𝓖 .A) f.signature (f.spec 𝓤 H (𝓖 .A) (𝓜 .mem) (𝓡 .run)))
     (tables 𝓤 H 𝓜 𝓡 code.env .C) (tables 𝓤 H 𝓜 𝓡 code.env .Λ) #pass code.function (code.unfolded 𝓤 H 𝓜 𝓡)
-    (meets PassedOf PassRunOf answer count numbers segment toldPass outcome 𝓤 H (𝓖 .A) (givenOf 𝓤 H 𝓜 𝓖) parts #words #fill
+    (meets electedOf PassedOf PassRunOf answer count numbers segment toldPass outcome 𝓤 H (𝓖 .A) (givenOf 𝓤 H 𝓜 𝓖) parts #words #fill
     (tablesOf 𝓤 H 𝓜 (tables 𝓤 H 𝓜 𝓡 code.env))
     (cited 𝓤 H (Words 𝓤 H (𝓖 .A)) 𝓜 𝓡 code.env #words words-def.routine code.calls-lent-pass·pass-words (words-thm.met 𝓤 H 𝓜 𝓖 𝓡))
     (cited 𝓤 H (Fill 𝓤 H (𝓖 .A)) 𝓜 𝓡 code.env #fill fill-def.routine code.calls-lent-lists·fill-elected (fill-thm.met 𝓤 H 𝓜 𝓖 𝓡)))

@@ -1,8 +1,10 @@
 -- `pass_words` meets its contract: the pass over the part of the words that the list has room for.
 use mathlib.Core.Path.{refl, sym}
-use Rattle.lent_lists.specs.Records.{passCount}
-use Rattle.lent_lists.proofs.Cut.{part-length, cut-words}
-use Rattle·?.proofs.CutCalls.{passTo, pass-lists, pass-cut}
+use mathlib.Core.Path.{ap}
+use Rattle.book.specs.Calls.{passCall, PassOutcome}
+use Rattle.evaluation.specs.Counts.{passCount}
+use Rattle.word_rooms.proofs.Cut.{part-length, cut-words, ofList}
+use Rattle.evaluation.proofs.Rooms.{pass-lists, pass-cut}
 use borrow.Author.Needs.{needs}
 use Rattle.lent_pass.proofs.pass_words.Statement.{statement}
 use Rattle.lent_pass.proofs.pass_words.Tie as tie
@@ -35,8 +37,8 @@ returns c =
     let a = l .before .before .before .args in
     let d = w .evaluate-pending-stops .ensures in
     let script = a .script .now in
-    cut-words passCount (passTo (a .settings) script (a .prints) (a .s .now)) (pass-lists (a .settings) script (a .prints) (a .s .now))
-    (pass-cut (a .settings) script (a .prints) (a .s .now)) (a .words .now) (a .room) _ (l .before .before .before .pre) (l .least .ensures) _ _ _ _
+    cut-words passCount (λ room. ofList (passCall (a .settings) script (a .prints) (a .s .now) room)) (pass-lists (a .settings) script (a .prints) (a .s .now))
+    (λ room. ap (λ (o : PassOutcome). ofList o) (pass-cut (a .settings) script (a .prints) (a .s .now) room)) (a .words .now) (a .room) _ (l .before .before .before .pre) (l .least .ensures) _ _ _ _
     (c .pass-count .ensures) (d .0) (d .1 .0) (d .1 .1)
 
 pub pass-words-spec : {M : Type 1} → statement M

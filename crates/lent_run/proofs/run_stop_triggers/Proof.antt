@@ -49,7 +49,7 @@ use Rattle.book.specs.declared.LastPrice.{LastPrice}
 use Rattle.book.specs.declared.PrintPath.{PrintPath}
 use Rattle.book.specs.declared.Settings.{Settings}
 use Rattle.book.specs.Answers.{toldPass}
-use Rattle.lent_lists.specs.Records.{electedOf}
+use Rattle.entry_records.specs.Records.{electedOf}
 use Rattle.lent_run.specs.declared.TriggerRun.{TriggerRun}
 use Rattle.walks.proofs.Claims.{All, claimed}
 use Rattle.book.specs.Sizes.{electedLength}

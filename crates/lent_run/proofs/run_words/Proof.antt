@@ -1,7 +1,7 @@
 -- `run_words` meets its contract: the run over the part of the words that the list has room for.
 use mathlib.Core.Path.{refl, sym, ap}
 use Rattle.book.specs.Answers.{toldPass}
-use Rattle.lent_lists.proofs.Cut.{part-length, cut-words}
+use Rattle.word_rooms.proofs.Cut.{part-length, cut-words}
 use Rattle·?.proofs.CutCalls.{runTo, runCount, run-lists, run-cut}
 use borrow.Author.Needs.{needs}
 use Rattle.lent_run.proofs.run_words.Statement.{statement}

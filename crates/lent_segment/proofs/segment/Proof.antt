@@ -46,7 +46,7 @@ use Rattle.book.specs.declared.Moved.{Moved}
 use Rattle.book.specs.declared.PrintSegment.{PrintSegment}
 use Rattle.book.specs.declared.Settings.{Settings}
 use Rattle.book.specs.Answers.{toldCounts}
-use Rattle.lent_lists.specs.Records.{electedOf, movedOf}
+use Rattle.entry_records.specs.Records.{electedOf, movedOf}
 use Rattle.lent_segment.specs.declared.SegmentRun.{SegmentRun}
 use Rattle.walks.proofs.Claims.{All, claimed}
 use Rattle.book.specs.Sizes.{electedLength, movedLength}

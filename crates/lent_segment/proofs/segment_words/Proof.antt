@@ -1,6 +1,6 @@
 -- `segment_words` meets its contract: the segment over the parts of the words that the lists have room for.
 use mathlib.Core.Path.{refl, sym}
-use Rattle.lent_lists.proofs.Cut.{part-length}
+use Rattle.word_rooms.proofs.Cut.{part-length}
 use Rattle·?.proofs.CutCalls.{segment-words}
 use borrow.Author.Needs.{needs}
 use borrow.Author.Needs.{needs}

@@ -2,9 +2,12 @@
 use mathlib.Core.Path.{refl, sym}
 use mathlib.Core.List.{map}
 use Rattle.pricelevel.specs.Price.{toPrice}
-use Rattle.lent_lists.specs.Records.{electedCount}
-use Rattle.lent_lists.proofs.Cut.{part-length, cut-words}
-use Rattle·?.proofs.CutCalls.{walkTo, walk-lists, walk-cut}
+use Prim.Native.Nat.{ℕ}
+use mathlib.Core.Path.{ap}
+use Rattle.book.specs.Calls.{walkCall, WalkOutcome}
+use Rattle.evaluation.specs.Counts.{electedCount}
+use Rattle.word_rooms.proofs.Cut.{part-length, cut-words, ofList}
+use Rattle.evaluation.proofs.Rooms.{walk-lists, walk-cut}
 use borrow.Author.Needs.{needs}
 use Rattle.lent_walk.proofs.walk_words.Statement.{statement}
 use Rattle.lent_walk.proofs.walk_words.Tie as tie
@@ -38,8 +41,8 @@ returns c =
     let d = w .walk .ensures in
     let settings = a .settings in
     let prices = map toPrice (a .prices .now) in
-    cut-words electedCount (walkTo settings (a .prev) prices (a .s .now)) (walk-lists settings (a .prev) prices (a .s .now))
-    (walk-cut settings (a .prev) prices (a .s .now)) (a .words .now) (a .room) _ (l .before .before .before .pre) (l .least .ensures) _ _ _ _
+    cut-words electedCount (λ room. ofList (walkCall settings (a .prev) prices (a .s .now) room)) (walk-lists settings (a .prev) prices (a .s .now))
+    (λ room. ap (λ (o : WalkOutcome). ofList o) (walk-cut settings (a .prev) prices (a .s .now) room)) (a .words .now) (a .room) _ (l .before .before .before .pre) (l .least .ensures) _ _ _ _
     (c .elected-count .ensures) (d .0) (d .1 .0) (d .1 .1)
 
 pub walk-words-spec : {M : Type 1} → statement M

@@ -5,14 +5,15 @@ use mathlib.Core.Path.{_≡_, refl, sym, ap, subst, _∙_}
 use mathlib.Core.List.{List, [], _∷_, _++_, map, append-assoc}
 use lib.ListN.{length, take, drop, length-map, length-take}
 use lib.Seq.{take-at}
-use Rattle.book.specs.Calls.{written}
+use Rattle.book.specs.Calls.{written, ListOutcome}
+use Rattle.error.specs.Answer.{Answer}
 use Rattle.book.specs.Sizes.{mostRecords}
 use Rattle.book.specs.declared.Elected.{Elected}
 use Rattle.listing.specs.Entries.{electedWords, movedWords}
 use Rattle.book.specs.declared.Moved.{Moved}
 use Rattle.evaluation.proofs.Rooms.{UuidChild, Listed, ListsElected}
-use Rattle.lent_lists.specs.Records.{electedOf, movedOf}
-use Rattle.lent_lists.proofs.Reading.{elected-read, moved-read}
+use Rattle.entry_records.specs.Records.{electedOf, movedOf}
+use Rattle.entry_records.proofs.Reading.{elected-read, moved-read}
 use Rattle.walks.proofs.Evaluating.{Left}
 use Rattle.book.specs.Lists.{All}
 
@@ -71,3 +72,7 @@ module _ {A : Type 0} (count : A → ℕ) (call : ℕ → Left A)
       let l = cut-list mostRecords whole room k all part electedWords electedOf n (over .entries) (rw n-is (lists-it .0))
           (entries-read (over .entries) (lists-it .1)) z c in
       (l .0, (a ∙ ap (λ (o : Left A). o .told) same, (b ∙ ap (λ (o : Left A). o .words) same, l .1 ∙ ap (λ (o : Left A). o .entries) same)))
+
+-- the outcome of a walk or a pass
+abbrev pub ofList : {A : Type 0} → ListOutcome A → Left (Answer A)
+ofList o = record { told = o .answer; words = o .words; entries = o .elected }

@@ -2,8 +2,8 @@
 use Rattle.book.specs.Answers.{toldPass}
 use Rattle.evaluation.specs.Counts.{passCount}
 use borrow.Author.Needs.{needs}
-use Rattle.lent_lists.proofs.pass_count.Statement.{statement}
-use Rattle.lent_lists.proofs.pass_count.Tie as tie
+use Rattle.word_rooms.proofs.pass_count.Statement.{statement}
+use Rattle.word_rooms.proofs.pass_count.Tie as tie
 
 enum-known-answer : tie.Need-enum-known-answer
 enum-known-answer c = search needs
