@@ -52,8 +52,9 @@ use Rattle.walks.proofs.Claims.{All, claimed}
 use Rattle.book.specs.Sizes.{electedLength, movedLength}
 use Rattle.walks.proofs.Constants.{mostMoves, large}
 use Rattle.walks.proofs.Plain.{word, value, stands, Stands}
-use Rattle.walks.proofs.Types.{PrintsOf, SettingsOf, ElectedOf, MovedOf, EvaluatedOf, SegmentRunOf, segment-run-parts}
+use Rattle.walks.proofs.Types.{PrintsOf, SettingsOf, ElectedOf, MovedOf, EvaluatedOf}
 use Rattle.walks.proofs.Lent.{has, answers}
+use Rattle.lent_segment.proofs.Answer.{SegmentRunOf, segment-run-parts}
 use Rattle.walks.proofs.Buffers.{Entry, blank, blank-length, zeros, blankVal, zeroed, lends-out, had-back, fills}
 use Rattle.walks.proofs.Frame.{Cell, room as empty, full, away, locals, frees-all}
 use Rattle.walks.proofs.Locals.{to-row, row-room}

@@ -1,8 +1,7 @@
 -- `segment_words` meets its contract: the segment over the parts of the words that the lists have room for.
 use mathlib.Core.Path.{refl, sym}
 use Rattle.word_rooms.proofs.Cut.{part-length}
-use Rattle·?.proofs.CutCalls.{segment-words}
-use borrow.Author.Needs.{needs}
+use Rattle.lent_segment.proofs.Parts.{segment-words}
 use borrow.Author.Needs.{needs}
 use Rattle.lent_segment.proofs.segment_words.Statement.{statement}
 use Rattle.lent_segment.proofs.segment_words.Tie as tie
