@@ -50,7 +50,9 @@ fn run_words(
         ≡ runCall settings (now (script .entry)) (start .trade) (now (s .entry)) room (start .path) .elected ⌝ }
 {
     let k = least(room, words.len());
-    let run = evaluation::run_stop_triggers(s, start.path, settings, script, start.trade, &mut words[..k]);
+    let path = start.path;
+    let trade = start.trade;
+    let run = evaluation::run_stop_triggers(s, path, settings, script, trade, &mut words[..k]);
     let answer = run.answer;
     ListedRun {
         run: run,
