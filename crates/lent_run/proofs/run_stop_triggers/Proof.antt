@@ -1,6 +1,6 @@
 -- `run_stop_triggers` meets its contract, by a walk of its MIR: store, script and list go to the run by value for good, with a copy of the path;
 -- the path of its answer is stored, and what the callee says of the last words and entries is what this function says.
-use mathlib.Core.Path.{_≡_, refl, ap}
+use mathlib.Core.Path.{_≡_, refl, ap, _∙_}
 use Prim.Native.Nat.{ℕ}
 use lib.ListN.{length}
 use mathlib.Core.List.{[], _∷_, List}
@@ -12,10 +12,16 @@ use Rattle.walks.proofs.Walking.{of-opd, and-then, no-more, assigns, land, retu
 use Rattle.walks.proofs.Walking.{free0, agg, whole, sub, look-in, FmC, owns, RefT, MutRef, sliceVal, MutSlice, Room}
 use Rattle.walks.proofs.Walking.{finally, u64, plain, nothing, onEntry, tripleOf, Contract, Triple, calls-at, lasts, entered, cited}
 use Rattle.walks.proofs.Walking.{walkOf, ends-at}
-use base.Fml.{Fml}
-use types.Kit.{Item, use3}
+use mathlib.Core.List.{_++_}
+use mir.Syntax.{Ty, erased, mut, imm, w64, tyInt, tyRef, place, field, deref, copy, rvOpd, addrOf, aggregate, assign, seq, return, call}
+use mir.Syntax.{Body as MirBody}
+use base.Fml.{Fml, fauth, fbor, fobor}
+use prog.Wp.{Env}
+use types.Kit.{Item, Sq, runs, atRet, use0, use3}
+use types.SemTy.{Body}
+use denote.Memory.{mem, pointee}
 use sound.WpLaws.{fmOf}
-use denote.Slice.{ShrSlice}
+use denote.Slice.{sliceTy, ShrSlice}
 use Rattle.book.specs.Calls.{written, runCall, RunOutcome}
 use Rattle.book.specs.declared.Elected.{Elected}
 use Rattle.book.specs.declared.LastPrice.{LastPrice}
@@ -25,22 +31,30 @@ use Rattle.book.specs.declared.StopRun.{StopRun}
 use Rattle.book.specs.Answers.{toldPass}
 use Rattle.lent_run.specs.Runs.{toldRun, ranTo}
 use Rattle.lent_run.specs.declared.Start.{Start}
-use Rattle.lent_run.proofs.Types.{StartOf, StopRunOf, start-stands, run-parts}
+use Rattle.lent_run.proofs.Types.{StartOf, StopRunOf, start-stands, start-is, run-parts}
 use Rattle.walks.proofs.Claims.{All, claimed}
 use Rattle.walks.proofs.Params.{Param, numbers, lent, lent-struct, stays, meets}
 use Rattle.walks.proofs.Params as params
 use Rattle.walks.proofs.Plain.{Plain, Stands, value, stands}
 use Rattle.walks.proofs.Types.{PathOf, LastOf, SettingsOf, ElectedOf, PassedOf}
-use Rattle.walks.proofs.Frame.{full, frees-all}
-use Rattle.walks.proofs.Lent.{has, lets-go, reads, shuts, answers}
+use Rattle.walks.proofs.Frame.{Cell, room as empty, full, locals, frees-all}
+use Rattle.walks.proofs.Lent.{cell, has, lets-go, reads, shuts, answers, asks as asks-for}
 use Rattle.lent_run.proofs.run_listed as callee
 use Rattle.lent_run.proofs.run_listed.Symbol as callee-def
 use Rattle.lent_run.proofs.run_listed.Symbol.{name as #callee}
 use Rattle.lent_run.proofs.run_listed.Met as callee-thm
+use Rattle.lent_run.proofs.start_of as begins
+use Rattle.lent_run.proofs.start_of.Symbol as begins-def
+use Rattle.lent_run.proofs.start_of.Symbol.{name as #begin}
+use Rattle.lent_run.proofs.start_of.Met as begins-thm
 use Rattle.lent_run.proofs.run_stop_triggers.Key.{name as #run-stop-triggers}
 use Rattle.lent_run.proofs.run_stop_triggers as f
 use Rattle.lent_run.proofs.run_stop_triggers.Statement as stated
 use Rattle.lent_run.proofs.run_stop_triggers.Code as code
+
+-- the type of an entry, behind a reference
+abbrev record′ : Ty
+record′ = pointee (ElectedOf .row .written)
 
 -- the parameters
 abbrev Ps : List (Param 4)
@@ -50,6 +64,9 @@ Ps = lent 4 0 tt u64 ∷ lent-struct 4 1 tt (PathOf .row) ∷ params.value 4 Set
 module _ {M : Type 1} (𝓤 : URA M) (H : Heap 𝓤) (A : Atoms 𝓤) (at-mem : Memory → SProp 𝓤) (run : Routine → Fun 𝓤) where
   abbrev Callee : Contract 𝓤
   Callee = tripleOf 𝓤 H A callee.signature (callee.spec 𝓤 H A at-mem run)
+
+  abbrev Begin : Contract 𝓤
+  Begin = tripleOf 𝓤 H A begins.signature (begins.spec 𝓤 H A at-mem run)
 
 module _ {M : Type 1} (𝓤 : URA M) (H : Heap 𝓤) (A : Atoms 𝓤) (W : Given 𝓤 H A) (at-mem : Memory → SProp 𝓤) (run : Routine → Fun 𝓤)
     (κ₁ κ₂ κ₃ κ₄ : Lft) (q₁ q₂ q₃ q₄ : Share) (xs : RefT (List ℕ)) (b o : ℕ) (γ : GName) (h : PrintPath) (settings : Settings) (xn : RefT (List ℕ))
@@ -80,7 +97,11 @@ module _ {M : Type 1} (𝓤 : URA M) (H : Heap 𝓤) (A : Atoms 𝓤) (W : Given
   Post = walkOf 𝓤 H A f.ended (stays 4 Ps) (f.clauses 𝓤 H A at-mem run) .post
       (((κ₁, (κ₂, (κ₃, (κ₄, tt)))), (q₁, (q₂, (q₃, (q₄, tt)))), tt, a, at), tt)
 
-  -- ---- the call: store, script and list go to it for good
+  -- ---- the first call
+  abbrev begin : Begin 𝓤 H A at-mem run .Ghost
+  begin = ((tt, tt, tt, (h, (trade, tt)), (PathOf .val h ∷ [], (LastOf .val trade ∷ [], tt))), tt)
+
+  -- ---- the second: store, script and list go to it for good
   abbrev to : Callee 𝓤 H A at-mem run .Ghost
   to = (
     (
@@ -144,63 +165,118 @@ module _ {M : Type 1} (𝓤 : URA M) (H : Heap 𝓤) (A : Atoms 𝓤) (W : Given
       has PassedOf ! (r .answer) (run-parts r is .0) $ done !
 
   module _ (C : Calls 𝓤 H) (Λ : Loops 𝓤 H) (fm : FmC 𝓤 H (W .laws) C) (known : Triple 𝓤 (C #callee) (Callee 𝓤 H A at-mem run))
+      (known′ : Triple 𝓤 (C #begin) (Begin 𝓤 H A at-mem run))
       (room₁ : Room u64 (length (xs .now))) (room₃ : Room u64 (length (xn .now))) (room₄ : Room (ElectedOf .row) (length (xe .now))) where
-    walk : ent 𝓤 (onEntry 𝓤 H A f.signature (κ₁, (κ₂, (κ₃, (κ₄, tt)))) (q₁, (q₂, (q₃, (q₄, tt)))) a at) (WpFn 𝓤 H C Λ code.function args Post)
-    walk =
+    abbrev Lent : List (Item 𝓤)
+    Lent = alive ∷ ‵ Store ∷ (‵ Script ⊛ ‵ Listed) ∷ []
+
+    -- what is needed of what is had at entry
+    abbrev Needed : List (Item 𝓤)
+    Needed = ‵ (fobs γ (PathOf .row .coded .code h)) ∷ ‵ (fbor κ₂ (Body (mem (PathOf .row)) b o γ)) ∷ ‵ (flft κ₂ q₂) ∷ Lent
+
+    picks : ent 𝓤 (onEntry 𝓤 H A f.signature (κ₁, (κ₂, (κ₃, (κ₄, tt)))) (q₁, (q₂, (q₃, (q₄, tt)))) a at) (⋆ 𝓤 H A Needed)
+    picks =
         qed W ((‵ (flft κ₁ q₁) ⊛ ‵ (flft κ₂ q₂) ⊛ ‵ (flft κ₃ q₃) ⊛ ‵ (flft κ₄ q₄) ⊛ ‵ ftrue)
         ∷ ‵ (owns (MutSlice (named 0) κ₁ u64 ∷ MutRef (named 1) κ₂ (PathOf .row) ∷ SettingsOf .row ∷ ShrSlice (named 2) κ₃ u64 ∷ LastOf .row
-        ∷ MutSlice (named 3) κ₄ (ElectedOf .row) ∷ []) a at) ∷ []) ∵ enter ! C Λ code.function args _ $
+        ∷ MutSlice (named 3) κ₄ (ElectedOf .row) ∷ []) a at) ∷ []) ∵ split ! $ move ! (1 ∷ []) $ split ! $
+        -- [the path's token; the others' but the store's; the store's; what the parameters own]
+        move ! (2 ∷ 1 ∷ []) $ join ! $ move ! (2 ∷ []) $ fsplit ! $ move ! (1 ∷ []) $ fsplit ! $ fsplit3 ! $ drop ! $
+        -- [obs; the borrow; what the rest own; what the store owns; the others' tokens; the path's]
+        move ! (2 ∷ []) $ fsplit ! $ drop ! $ fsplit ! $ move ! (1 ∷ []) $ fsplit ! $ drop ! $ fsplit ! $ move ! (2 ∷ 0 ∷ []) $ join ! $
+        keep ! (2 ∷ 3 ∷ 6 ∷ 5 ∷ 4 ∷ 0 ∷ []) $ done !
+
+    module _ (l₀ l₁ l₂ l₃ l₄ l₅ l₆ l₇ l₈ l₉ l₁₀ l₁₁ l₁₂ l₁₃ : ℕ) where
+      abbrev En : Env 𝓤 H
+      En = (PassedOf .mir, l₀) ∷ (sliceTy (tyRef (named 0) mut (tyInt w64)), l₁) ∷ (tyRef (named 1) mut (pointee (PathOf .row .written)), l₂) ∷ (SettingsOf .mir, l₃)
+          ∷ (sliceTy (tyRef (named 2) imm (tyInt w64)), l₄) ∷ (LastOf .mir, l₅) ∷ (sliceTy (tyRef (named 3) mut record′), l₆)
+          ∷ (StopRunOf .mir, l₇) ∷ (tyRef erased mut (tyInt w64), l₈) ∷ (sliceTy (tyRef erased mut (tyInt w64)), l₉) ∷ (StartOf .mir, l₁₀)
+          ∷ (PathOf .mir, l₁₁) ∷ (tyRef erased mut record′, l₁₂) ∷ (sliceTy (tyRef erased mut record′), l₁₃) ∷ []
+
+      -- the parameters' cells
+      abbrev given : List Cell
+      given = full s ∷ full (vptr b o) ∷ full (SettingsOf .val settings) ∷ full sn ∷ full (LastOf .val trade) ∷ full se ∷ []
+
+      -- the borrow of the path, open
+      abbrev Open : List (Item 𝓤)
+      Open = ‵ (cell PathOf h b o) ∷ ‵ (fobor κ₂ q₂ (Body (mem (PathOf .row)) b o γ)) ∷ ‵ (fobs γ (PathOf .row .coded .code h))
+          ∷ ‵ (fauth γ (PathOf .row .coded .code h)) ∷ []
+
+      -- the first call is over: from where the list is lent on
+      abbrev Begun : List (Item 𝓤)
+      Begun = Open ++ Lent ++ locals 𝓤 H En (empty ∷ given ++ empty ∷ full (vptr (xs .ptr .0) (xs .ptr .1)) ∷ full s ∷ full (StartOf .val start)
+          ∷ full (PathOf .val h) ∷ []) []
+
+      abbrev lends : MirBody
+      lends = seq (assign (place 12 []) (addrOf (place 6 (field 0 ∷ deref (ElectedOf .mir) ∷ []))))
+          (seq (assign (place 13 []) (aggregate (copy (place 12 []) ∷ copy (place 6 (field 1 ∷ [])) ∷ [])))
+          (seq (call #callee (copy (place 9 []) ∷ copy (place 3 []) ∷ copy (place 4 []) ∷ copy (place 10 []) ∷ copy (place 13 []) ∷ []) (place 7 []))
+          (seq (assign (place 2 (deref (PathOf .mir) ∷ [])) (rvOpd (copy (place 7 (field 1 ∷ [])))))
+          (seq (assign (place 0 []) (rvOpd (copy (place 7 (field 0 ∷ []))))) return))))
+
+      ran : Stands PathOf h → Sq W Begun (runs C Λ En lends (atRet En Post))
+      ran was =
+          -- [the path's cell; the open borrow; obs; auth; the others' tokens; store; script and list; _13 (7); …]
+          assigns ! (addr ! (from ! (fld ! refl (hop ! (look-in ! 21 (sub ! 0 refl (whole !))) (stop !))))) (from ! (stop !))
+          (init ! 9 refl (tt, tt)) $
+          assigns ! (agg ! (and-then ! (load ! (from ! (stop !)) (look ! 9 refl))
+          (and-then ! (load ! (from ! (fld ! refl (stop !))) (look-in ! 21 (sub ! 1 refl (whole !)))) (no-more !))))
+          (from ! (stop !)) (init ! 7 refl (tt, (tt, (record { fits = room₄ .0 }, tt)))) $
+          move ! (4 ∷ 5 ∷ 6 ∷ []) $ use3 W (raw (Callee 𝓤 H A at-mem run .pre to)) (asks was) $
+          calls-at ! fm (Callee 𝓤 H A at-mem run) known to (and-then ! (load ! (from ! (stop !)) (look ! 13 refl))
+          (and-then ! (load ! (from ! (stop !)) (look ! 25 refl)) (and-then ! (load ! (from ! (stop !)) (look ! 23 refl))
+          (and-then ! (load ! (from ! (stop !)) (look ! 11 refl)) (and-then ! (load ! (from ! (stop !)) (look ! 5 refl)) (no-more !)))))) (λ w.
+          answers StopRunOf ! tt alive (lasts callee.ended (κ₁, (κ₃, (κ₄, tt))) (to .0 .3)) (λ r zs. Did r (zs .0) (zs .1 .1 .1 .1 .0)) w (id⊢ 𝓤 _)
+          (λ r zs is e. fsplit ! $ fsplit ! $ move ! (1 ∷ []) $ feqL ! (λ l. move ! (1 ∷ []) $ fsplit ! $ drop ! $ fsplit ! $ drop ! $ fsplit ! $
+          drop ! $ fsplit ! $ fsplit ! $ move ! (1 ∷ []) $ feqL ! (λ m.
+          -- [the list's last; true; the store's; the tokens; the path's cell; the open borrow; obs; auth; _13 (8); …]
+          move ! (4 ∷ 5 ∷ 6 ∷ 7 ∷ []) $ land ! (from ! (stop !)) (init ! 20 refl (StopRunOf .typed 𝓤 H A W r w is)) $
+          rewrite ! 20 (λ (u : Val). ‵ (fat fullShare (StopRunOf .mir) l₇ 0 u)) (value StopRunOf r w is) refl $
+          assigns ! (of-opd ! (load ! (from ! (fld ! refl (stop !))) (look-in ! 20 (sub ! 1 refl (whole !)))))
+          (from ! (hop ! (look ! 30 refl) (stop !)))
+          (store-raw ! 0 refl (PathOf .typed 𝓤 H A W (r .path) _ (run-parts r (stands StopRunOf r w is) .1))) $
+          assigns ! (of-opd ! (load ! (from ! (fld ! refl (stop !))) (look-in ! 20 (sub ! 0 refl (whole !))))) (from ! (stop !))
+          (init ! 34 refl (PassedOf .typed 𝓤 H A W (r .answer) _ (run-parts r (stands StopRunOf r w is) .0))) $
+          shuts PathOf ! tt (r .path) b o (run-parts r (stands StopRunOf r w is) .1) $
+          -- [obs; the borrow; the path's token; the list's last; true; the store's; the tokens; _13 (7); …]
+          returns ! (look ! 33 refl) $ frees-all ! 7 (full _ ∷ full _ ∷ full _ ∷ full _ ∷ full _ ∷ full _ ∷ full _ ∷ full _ ∷ full _ ∷ full _ ∷ full _
+          ∷ full _ ∷ full _ ∷ full _ ∷ []) tt refl $ free0 ! $ keep ! (5 ∷ 0 ∷ 3 ∷ 6 ∷ 2 ∷ []) $
+          by ! (exits r (stands StopRunOf r w is) (zs .0) l (zs .1 .1 .1 .1 .0) m
+          (ap (λ t. t .0) (e .0), (ap (λ t. t .1) (e .0), e .1)))))))
+
+      -- the path is read, and the first call made
+      begun : Sq W (Needed ++ locals 𝓤 H En (empty ∷ given) []) (runs C Λ En (code.function .body) (atRet En Post))
+      begun =
+          -- [obs; the borrow; its token; the others'; store; script and list; _13 (6); …]
+          assigns ! (addr ! (from ! (fld ! refl (hop ! (look-in ! 30 (sub ! 0 refl (whole !))) (stop !))))) (from ! (stop !))
+          (init ! 16 refl (tt, tt)) $
+          assigns ! (agg ! (and-then ! (load ! (from ! (stop !)) (look ! 16 refl))
+          (and-then ! (load ! (from ! (fld ! refl (stop !))) (look-in ! 30 (sub ! 1 refl (whole !)))) (no-more !))))
+          (from ! (stop !)) (init ! 14 refl (tt, (tt, (record { fits = room₁ .0 }, tt)))) $
+          reads PathOf ! tt {h = h} b o (λ was.
+          -- [the path's cell; the open borrow; obs; auth; the others' tokens; store; script and list; _13 (7); …]
+          assigns ! (of-opd ! (load ! (from ! (hop ! (look ! 29 refl) (stop !))) (look-raw ! 0 refl))) (from ! (stop !))
+          (init ! 11 refl (PathOf .typed 𝓤 H A W h (PathOf .val h) was)) $
+          use0 W (raw (Begin 𝓤 H A at-mem run .pre begin)) (asks-for 𝓤 H A W (PathOf ∷ LastOf ∷ []) (h, (trade, tt)) (was, (trade-is, tt))) $
+          calls-at ! fm (Begin 𝓤 H A at-mem run) known′ begin (and-then ! (load ! (from ! (stop !)) (look ! 12 refl))
+          (and-then ! (load ! (from ! (stop !)) (look ! 24 refl)) (no-more !))) (λ w′.
+          answers StartOf ! tt (‵ ftrue) (lasts begins.ended tt (begin .0 .3)) (λ r _. ((r .path ≡ h) × (r .trade ≡ trade)) ∷ []) w′ (id⊢ 𝓤 _)
+          (λ r′ _ is′ e′. drop ! $ drop ! $ land ! (from ! (stop !)) (init ! 13 refl (StartOf .typed 𝓤 H A W r′ w′ is′)) $
+          rewrite ! 13 (λ (u : Val). ‵ (fat fullShare (StartOf .mir) l₁₀ 0 u))
+          (value StartOf r′ w′ is′ ∙ ap (StartOf .val) (start-is r′ h trade e′)) refl $ ran was)))
+
+    enters : ent 𝓤 (⋆ 𝓤 H A Needed) (WpFn 𝓤 H C Λ code.function args Post)
+    enters =
+        qed W Needed ∵ enter ! C Λ code.function args _ $
         alloc1 ! (λ l₀. alloc1 ! (λ l₁. alloc1 ! (λ l₂. alloc1 ! (λ l₃. alloc1 ! (λ l₄. alloc1 ! (λ l₅. alloc1 ! (λ l₆.
         alloc1 ! (λ l₇. alloc1 ! (λ l₈. alloc1 ! (λ l₉. alloc1 ! (λ l₁₀. alloc1 ! (λ l₁₁. alloc1 ! (λ l₁₂. alloc1 ! (λ l₁₃. alloc0 ! $ params1 ! $
         pass1 ! (init ! 24 refl (tt, (tt, (record { fits = room₁ .0 }, tt)))) $ pass1 ! (init ! 22 refl (tt, tt)) $
         pass1 ! (init ! 20 refl (SettingsOf .typed 𝓤 H A W settings _ settings-is)) $
         pass1 ! (init ! 18 refl (tt, (tt, (record { fits = room₃ .0 }, tt)))) $ pass1 ! (init ! 16 refl (LastOf .typed 𝓤 H A W trade _ trade-is)) $
         pass1 ! (init ! 14 refl (tt, (tt, (record { fits = room₄ .0 }, tt)))) $ pass0 ! $
-        assigns ! (addr ! (from ! (fld ! refl (hop ! (look-in ! 24 (sub ! 0 refl (whole !))) (stop !))))) (from ! (stop !))
-        (init ! 10 refl (tt, tt)) $
-        assigns ! (agg ! (and-then ! (load ! (from ! (stop !)) (look ! 10 refl))
-        (and-then ! (load ! (from ! (fld ! refl (stop !))) (look-in ! 24 (sub ! 1 refl (whole !)))) (no-more !))))
-        (from ! (stop !)) (init ! 8 refl (tt, (tt, (record { fits = room₁ .0 }, tt)))) $
-        -- [_13 (0); …; the tokens (28); what the parameters own]
-        move ! (28 ∷ 29 ∷ []) $ split ! $ move ! (1 ∷ []) $ split ! $
-        -- [the path's token; the others' but the store's; the store's; what the parameters own; …]
-        move ! (2 ∷ 1 ∷ []) $ join ! $ move ! (2 ∷ []) $ fsplit ! $ move ! (1 ∷ []) $ fsplit ! $ fsplit3 ! $ drop ! $
-        -- [obs; the borrow; what the rest own; what the store owns; the others' tokens; the path's; _13 (6); …]
-        move ! (2 ∷ []) $ fsplit ! $ drop ! $ fsplit ! $ move ! (1 ∷ []) $ fsplit ! $ drop ! $ fsplit ! $ move ! (2 ∷ 0 ∷ []) $ join ! $
-        move ! (2 ∷ 3 ∷ 6 ∷ 5 ∷ 4 ∷ 0 ∷ []) $
-        -- [obs; the borrow; the path's token; the others'; what the store owns; what script and list own; true; _13 (7); …]
-        reads PathOf ! tt b o (λ was.
-        -- [the path's cell; the open borrow; obs; auth; the others' tokens; store; script and list; true; _13 (8); …]
-        assigns ! (of-opd ! (load ! (from ! (hop ! (look ! 30 refl) (stop !))) (look-raw ! 0 refl))) (from ! (stop !))
-        (init ! 14 refl (PathOf .typed 𝓤 H A W h (PathOf .val h) was)) $
-        assigns ! {v = StartOf .val start} (agg ! (and-then ! (load ! (from ! (stop !)) (look ! 14 {v = PathOf .val h} refl))
-        (and-then ! (load ! (from ! (stop !)) (look ! 24 {v = LastOf .val trade} refl)) (no-more !)))) (from ! (stop !)) (init ! 12 refl (StartOf .typed 𝓤 H A W start _ (start-stands h trade was trade-is))) $
-        assigns ! (addr ! (from ! (fld ! refl (hop ! (look-in ! 22 (sub ! 0 refl (whole !))) (stop !))))) (from ! (stop !))
-        (init ! 10 refl (tt, tt)) $
-        assigns ! (agg ! (and-then ! (load ! (from ! (stop !)) (look ! 10 refl))
-        (and-then ! (load ! (from ! (fld ! refl (stop !))) (look-in ! 22 (sub ! 1 refl (whole !)))) (no-more !))))
-        (from ! (stop !)) (init ! 8 refl (tt, (tt, (record { fits = room₄ .0 }, tt)))) $
-        move ! (4 ∷ 5 ∷ 6 ∷ []) $ use3 W (raw (Callee 𝓤 H A at-mem run .pre to)) (asks was) $
-        calls-at ! fm (Callee 𝓤 H A at-mem run) known to (and-then ! (load ! (from ! (stop !)) (look ! 14 refl))
-        (and-then ! (load ! (from ! (stop !)) (look ! 26 refl)) (and-then ! (load ! (from ! (stop !)) (look ! 24 refl))
-        (and-then ! (load ! (from ! (stop !)) (look ! 10 refl)) (and-then ! (load ! (from ! (stop !)) (look ! 6 refl)) (no-more !)))))) (λ w.
-        answers StopRunOf ! tt alive (lasts callee.ended (κ₁, (κ₃, (κ₄, tt))) (to .0 .3)) (λ r zs. Did r (zs .0) (zs .1 .1 .1 .1 .0)) w (id⊢ 𝓤 _)
-        (λ r zs is e. fsplit ! $ fsplit ! $ move ! (1 ∷ []) $ feqL ! (λ l. move ! (1 ∷ []) $ fsplit ! $ drop ! $ fsplit ! $ drop ! $ fsplit ! $
-        drop ! $ fsplit ! $ fsplit ! $ move ! (1 ∷ []) $ feqL ! (λ m.
-        -- [the list's last; true; the store's; the tokens; the path's cell; the open borrow; obs; auth; true; _13 (9); …]
-        move ! (4 ∷ 5 ∷ 6 ∷ 7 ∷ []) $ land ! (from ! (stop !)) (init ! 21 refl (StopRunOf .typed 𝓤 H A W r w is)) $
-        rewrite ! 21 (λ (u : Val). ‵ (fat fullShare (StopRunOf .mir) l₇ 0 u)) (value StopRunOf r w is) refl $
-        assigns ! (of-opd ! (load ! (from ! (fld ! refl (stop !))) (look-in ! 21 (sub ! 1 refl (whole !)))))
-        (from ! (hop ! (look ! 31 refl) (stop !)))
-        (store-raw ! 0 refl (PathOf .typed 𝓤 H A W (r .path) _ (run-parts r (stands StopRunOf r w is) .1))) $
-        assigns ! (of-opd ! (load ! (from ! (fld ! refl (stop !))) (look-in ! 21 (sub ! 0 refl (whole !))))) (from ! (stop !))
-        (init ! 35 refl (PassedOf .typed 𝓤 H A W (r .answer) _ (run-parts r (stands StopRunOf r w is) .0))) $
-        shuts PathOf ! tt (r .path) b o (run-parts r (stands StopRunOf r w is) .1) $
-        -- [obs; the borrow; the path's token; the list's last; true; the store's; the tokens; true; _13 (8); …]
-        returns ! (look ! 34 refl) $ frees-all ! 8 (full _ ∷ full _ ∷ full _ ∷ full _ ∷ full _ ∷ full _ ∷ full _ ∷ full _ ∷ full _ ∷ full _ ∷ full _
-        ∷ full _ ∷ full _ ∷ full _ ∷ []) tt refl $ free0 ! $ keep ! (5 ∷ 0 ∷ 3 ∷ 6 ∷ 2 ∷ []) $
-        by ! (exits r (stands StopRunOf r w is) (zs .0) l (zs .1 .1 .1 .1 .0) m
-        (ap (λ t. t .0) (e .0), (ap (λ t. t .1) (e .0), e .1))))))))))))))))))))))
+        move ! (28 ∷ 29 ∷ 30 ∷ 31 ∷ 32 ∷ 33 ∷ []) $ begun l₀ l₁ l₂ l₃ l₄ l₅ l₆ l₇ l₈ l₉ l₁₀ l₁₁ l₁₂ l₁₃))))))))))))))
+
+    walk : ent 𝓤 (onEntry 𝓤 H A f.signature (κ₁, (κ₂, (κ₃, (κ₄, tt)))) (q₁, (q₂, (q₃, (q₄, tt)))) a at) (WpFn 𝓤 H C Λ code.function args Post)
+    walk = via 𝓤 (⋆ 𝓤 H A Needed) picks enters
 
 pub run-stop-triggers-spec : {M : Type 1} → stated.statement M
 unfolding code.routine tablesOf
@@ -214,4 +290,6 @@ run-stop-triggers-spec 𝓤 H 𝓜 𝓖 𝓡 =
     (a .1 .1 .1 .1 .1 .0) (are .1 .1 .0) (are .1 .1 .1 .1 .0) (tables 𝓤 H 𝓜 𝓡 code.env .C) (tables 𝓤 H 𝓜 𝓡 code.env .Λ)
     (fmOf 𝓤 H (givenOf 𝓤 H 𝓜 𝓖 .laws) (tablesOf 𝓤 H 𝓜 (tables 𝓤 H 𝓜 𝓡 code.env)))
     (cited 𝓤 H (Callee 𝓤 H (𝓖 .A) (𝓜 .mem) (𝓡 .run)) 𝓜 𝓡 code.env #callee callee-def.routine code.calls-lent-run·run-listed
-    (callee-thm.met 𝓤 H 𝓜 𝓖 𝓡)) (are .0 .0 .1) (are .1 .1 .1 .0 .0 .1) (are .1 .1 .1 .1 .1 .0 .0 .1))))
+    (callee-thm.met 𝓤 H 𝓜 𝓖 𝓡))
+    (cited 𝓤 H (Begin 𝓤 H (𝓖 .A) (𝓜 .mem) (𝓡 .run)) 𝓜 𝓡 code.env #begin begins-def.routine code.calls-lent-run·start-of
+    (begins-thm.met 𝓤 H 𝓜 𝓖 𝓡)) (are .0 .0 .1) (are .1 .1 .1 .0 .0 .1) (are .1 .1 .1 .1 .1 .0 .0 .1))))
