@@ -60,13 +60,13 @@ pub fn moved_at(words: &[MovedWords], at: usize) -> Moved
     requires { ⌜ at < length (now words) ⌝ }
     ensures { λ r. ⌜ r ≡ movedOf (getD (now (words .entry)) at []) ⌝ }
 {
-    let e = words[at];
+    let m = words[at];
     Moved {
         id: Id {
-            kind: kind_of(e[0]),
-            high: e[1],
-            low: e[2],
+            kind: kind_of(m[0]),
+            high: m[1],
+            low: m[2],
         },
-        stop: Price(e[3]),
+        stop: Price(m[3]),
     }
 }

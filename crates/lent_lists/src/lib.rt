@@ -21,11 +21,11 @@ pub fn place_elected(list: &mut [Elected], at: usize, entry: Elected)
 }
 
 // Stores a moved entry at a place of a lent list; the others stay.
-pub fn place_moved(list: &mut [Moved], at: usize, entry: Moved)
+pub fn place_moved(list: &mut [Moved], at: usize, moved: Moved)
     requires { ⌜ at < length (now list) ⌝ }
-    ensures { λ _. ⌜ now (list .exit) ≡ set (now (list .entry)) at entry ⌝ }
+    ensures { λ _. ⌜ now (list .exit) ≡ set (now (list .entry)) at moved ⌝ }
 {
-    list[at] = entry;
+    list[at] = moved;
 }
 
 // Writes the first n elected entries of a lent list from their words; later ones stay.
