@@ -150,10 +150,7 @@ fn settings() -> Settings {
     Settings {
         kill: false,
         protection: Protection::None,
-        namespace: Uuid {
-            high: 0,
-            low: 0,
-        },
+        namespace: Uuid { high: 0, low: 0 },
     }
 }
 

@@ -38,9 +38,9 @@ module _ (s : Settings) (prints : PrintSegment) (w : List ℕ) (fills moves : Li
       let n-is : n ≡ electedCount (over .answer) = ecount ∙ ap electedCount a in
       let k-is : k ≡ movedCount (over .answer) = mcount ∙ ap movedCount a in
       let e = cut-list mostRecords fills eroom i (all .0) epart electedWords electedOf n (over .elected) (rw n-is (l .0 .0))
-          (entries-read (over .elected) (l .0 .1)) x c in
+      (entries-read (over .elected) (l .0 .1)) x c in
       let m = cut-list (2 * mostRecords) moves mroom j (all .1) mpart movedWords movedOf k (over .moved) (rw k-is (l .1))
-          (moves-read (over .moved)) y d in (
+      (moves-read (over .moved)) y d in (
         (e .0, m .0),
         (
           a ∙ ap (λ (o : SegmentOutcome). o .answer) same,

@@ -70,7 +70,7 @@ module _ {A : Type 0} (count : A → ℕ) (call : ℕ → Left A)
       let n-is : n ≡ count (over .told) = counted ∙ ap count a in
       let lists-it : ListsElected (count (over .told)) (over .entries) (length (take k whole)) = lists (length (take k whole)) in
       let l = cut-list mostRecords whole room k all part electedWords electedOf n (over .entries) (rw n-is (lists-it .0))
-          (entries-read (over .entries) (lists-it .1)) z c in
+      (entries-read (over .entries) (lists-it .1)) z c in
       (l .0, (a ∙ ap (λ (o : Left A). o .told) same, (b ∙ ap (λ (o : Left A). o .words) same, l .1 ∙ ap (λ (o : Left A). o .entries) same)))
 
 -- the outcome of a walk or a pass

@@ -5,17 +5,17 @@ use Prim.Native.Nat.{ℕ, _≤_, _*_}
 use mathlib.Core.List.{[], _∷_, List, _++_}
 use lib.Dec.{lit<}
 use lib.ListN.{length, take, drop as without}
-use types.Kit.{use3}
+use types.Kit.{use3, Item, Sq, runs, atRet}
 use denote.Triple.Walked.{needs}
-use Rattle.walks.proofs.Walking.{URA, fullShare, named, w64, Val, vint, vptr, SProp, ent, id⊢, via, Lft, Share, GName, ftrue, fat, flft}
-use Rattle.walks.proofs.Walking.{Memory, Routine, Heap, Calls, Loops, WpFn, Atoms, Fun, givenOf, tables, tablesOf, Given, ‵, raw}
-use Rattle.walks.proofs.Walking.{_⊛_, ⋆, _$_, _∵_, !, qed, by, move, keep, drop, split, join, rewrite, fsplit, fjoin, feqL}
-use Rattle.walks.proofs.Walking.{suffices, frame, done, look, init, stop, hop, fld, from, load, addr, of-opd}
-use Rattle.walks.proofs.Walking.{and-then, no-more, assigns, land, returns, enter, alloc1, alloc0, params1, pass1, pass0, free0}
-use Rattle.walks.proofs.Walking.{agg, whole, sub, look-in, FmC, owns, RefT, sliceVal, MutSlice, Room}
-use Rattle.walks.proofs.Walking.{finally, slice-vals, mut-slice-tells, u64, plain, nothing, onEntry, tripleOf, Contract, Triple, calls-at}
-use Rattle.walks.proofs.Walking.{lasts, entered, cited, Stays, gave-slice, walkOf, AllGo, goes-gave-slice, Walks, ends-at, walked}
-use types.Kit.{Item, Sq, runs, atRet}
+use Rattle.walks.proofs.Walking.{URA, fullShare, named, w64, Val, vint, vptr, SProp, ent, id⊢, via, Lft, Share, GName}
+use Rattle.walks.proofs.Walking.{ftrue, fat, flft, Memory, Routine, Heap, Calls, Loops, WpFn, Atoms, Fun, givenOf}
+use Rattle.walks.proofs.Walking.{tables, tablesOf, Given, ‵, raw, _⊛_, ⋆, _$_, _∵_, !, qed, by, move, keep, drop}
+use Rattle.walks.proofs.Walking.{split, join, rewrite, fsplit, fjoin, feqL, suffices, frame, done, look, init, stop}
+use Rattle.walks.proofs.Walking.{hop, fld, from, load, addr, of-opd, and-then, no-more, assigns, land, returns, enter}
+use Rattle.walks.proofs.Walking.{alloc1, alloc0, params1, pass1, pass0, free0, agg, whole, sub, look-in, FmC, owns}
+use Rattle.walks.proofs.Walking.{RefT, sliceVal, MutSlice, Room, finally, slice-vals, mut-slice-tells, u64, plain}
+use Rattle.walks.proofs.Walking.{nothing, onEntry, tripleOf, Contract, Triple, calls-at, lasts, entered, cited, Stays}
+use Rattle.walks.proofs.Walking.{gave-slice, walkOf, AllGo, goes-gave-slice, Walks, ends-at, walked}
 use mir.Syntax.{erased, mut, tyInt, tyRef, tyArray}
 use prog.Wp.{Env}
 use denote.Memory.{pointee}
@@ -32,12 +32,12 @@ use Rattle.book.specs.Answers.{toldCounts}
 use Rattle.book.specs.declared.EvaluationAnswer.{EvaluationAnswer}
 use Rattle.lent_calls.specs.declared.SegmentListing.{SegmentListing}
 use Rattle.walks.proofs.Claims.{All, claimed}
-use Rattle.walks.proofs.Plain.{Plain, Stands, Held, word, rows, spells, tellss, valsOf, drops, drops-go, value, stands}
+use Rattle.walks.proofs.Plain.{Plain, Stands, Held, word, rows, spells, tellss, valsOf, drops, drops-go, value}
+use Rattle.walks.proofs.Plain.{stands}
 use Rattle.walks.proofs.Types.{SettingsOf, PrintsOf, ElectedOf, MovedOf, EvaluatedOf}
 use Rattle.walks.proofs.Lent.{has, answers, meets}
-use Rattle.lent_calls.proofs.Listings.{ElectionsOf, MovesOf, SegmentListingOf, elections-val, moves-val, segmentMade}
-use Rattle.lent_calls.proofs.Listings.{segment-made}
-use Rattle.lent_calls.proofs.Listings.{segment-listing-whole, made-typed}
+use Rattle.lent_calls.proofs.Listings.{ElectionsOf, MovesOf, SegmentListingOf, elections-val, moves-val}
+use Rattle.lent_calls.proofs.Listings.{segmentMade, segment-made, segment-listing-whole, made-typed}
 use Rattle.lent_calls.proofs.Local.{places}
 use Rattle.lent_calls.proofs.Parts.{Lent, lends-part, part-home, room-below}
 use Rattle.lent_segment.proofs.segment as callee

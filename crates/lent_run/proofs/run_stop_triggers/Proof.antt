@@ -3,21 +3,21 @@
 use mathlib.Core.Path.{_≡_, refl, ap, _∙_}
 use Prim.Native.Nat.{ℕ}
 use lib.ListN.{length}
-use mathlib.Core.List.{[], _∷_, List}
-use Rattle.walks.proofs.Walking.{URA, fullShare, named, Val, vptr, SProp, ent, emp, id⊢, via, fst∗, Lft, Share, GName, ftrue, fat}
-use Rattle.walks.proofs.Walking.{flft, fobs, Memory, Routine, Heap, Calls, Loops, WpFn, Atoms, Fun, givenOf, tables, tablesOf, Given, ‵}
-use Rattle.walks.proofs.Walking.{raw, _⊛_, ⋆, _$_, _∵_, !, qed, by, move, keep, drop, split, join, rewrite, fsplit, fsplit3, fjoin}
-use Rattle.walks.proofs.Walking.{feqL, suffices, frame, done, look, look-raw, init, store-raw, stop, hop, fld, from, load, addr}
-use Rattle.walks.proofs.Walking.{of-opd, and-then, no-more, assigns, land, returns, enter, alloc1, alloc0, params1, pass1, pass0}
-use Rattle.walks.proofs.Walking.{free0, agg, whole, sub, look-in, FmC, owns, RefT, MutRef, sliceVal, MutSlice, Room}
-use Rattle.walks.proofs.Walking.{finally, u64, plain, nothing, onEntry, tripleOf, Contract, Triple, calls-at, lasts, entered, cited}
-use Rattle.walks.proofs.Walking.{walkOf, ends-at}
-use mathlib.Core.List.{_++_}
-use mir.Syntax.{Ty, erased, mut, imm, w64, tyInt, tyRef, place, field, deref, copy, rvOpd, addrOf, aggregate, assign, seq, return, call}
-use mir.Syntax.{Body as MirBody}
+use mathlib.Core.List.{[], _∷_, List, _++_}
+use Rattle.walks.proofs.Walking.{URA, fullShare, named, Val, vptr, SProp, ent, emp, id⊢, via, fst∗, Lft, Share, GName}
+use Rattle.walks.proofs.Walking.{ftrue, fat, flft, fobs, Memory, Routine, Heap, Calls, Loops, WpFn, Atoms, Fun}
+use Rattle.walks.proofs.Walking.{givenOf, tables, tablesOf, Given, ‵, raw, _⊛_, ⋆, _$_, _∵_, !, qed, by, move, keep}
+use Rattle.walks.proofs.Walking.{drop, split, join, rewrite, fsplit, fsplit3, fjoin, feqL, suffices, frame, done}
+use Rattle.walks.proofs.Walking.{look, look-raw, init, store-raw, stop, hop, fld, from, load, addr, of-opd, and-then}
+use Rattle.walks.proofs.Walking.{no-more, assigns, land, returns, enter, alloc1, alloc0, params1, pass1, pass0, free0}
+use Rattle.walks.proofs.Walking.{agg, whole, sub, look-in, FmC, owns, RefT, MutRef, sliceVal, MutSlice, Room, finally}
+use Rattle.walks.proofs.Walking.{u64, plain, nothing, onEntry, tripleOf, Contract, Triple, calls-at, lasts, entered}
+use Rattle.walks.proofs.Walking.{cited, walkOf, ends-at, w64, use0}
+use mir.Syntax.{Ty, erased, mut, imm, tyInt, tyRef, place, field, deref, copy, rvOpd, addrOf, aggregate, assign, seq}
+use mir.Syntax.{return, call, Body as MirBody}
 use base.Fml.{Fml, fauth, fbor, fobor}
 use prog.Wp.{Env}
-use types.Kit.{Item, Sq, runs, atRet, use0, use3}
+use types.Kit.{Item, Sq, runs, atRet, use3}
 use types.SemTy.{Body}
 use denote.Memory.{mem, pointee}
 use sound.WpLaws.{fmOf}

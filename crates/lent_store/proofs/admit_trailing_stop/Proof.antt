@@ -5,17 +5,18 @@ use Prim.Native.Nat.{ℕ}
 use mathlib.Core.Bool.{Bool}
 use lib.ListN.{length}
 use mathlib.Core.List.{[], _∷_, List}
-use Rattle.walks.proofs.Walking.{URA, fullShare, named, Val, vbool, vptr, SProp, ent, emp, id⊢, via, fst∗, Lft, Share, GName, ftrue, fat}
-use Rattle.walks.proofs.Walking.{flft, fobs, Memory, Routine, Heap, Calls, Loops, WpFn, Atoms, Fun, givenOf, tables, tablesOf, Given, ‵}
-use Rattle.walks.proofs.Walking.{raw, _⊛_, ⋆, _$_, _∵_, !, qed, by, move, keep, drop, use2, split, join, rewrite, fsplit, fsplit3, fjoin}
-use Rattle.walks.proofs.Walking.{feqL, suffices, frame, done, look, look-raw, init, store-raw, stop, hop, fld, from, load, addr}
-use Rattle.walks.proofs.Walking.{of-opd, and-then, no-more, assigns, land, returns, enter, alloc1, alloc0, params1, pass1, pass0}
-use Rattle.walks.proofs.Walking.{free0, agg, whole, sub, look-in, FmC, owns, RefT, MutRef, ptr-vals, mut-tells, sliceVal, MutSlice, Room}
-use Rattle.walks.proofs.Walking.{finally, slice-vals, mut-slice-tells, u64, plain, nothing}
-use Rattle.walks.proofs.Walking.{onEntry, tripleOf, Contract, Triple, calls-at}
-use Rattle.walks.proofs.Walking.{lasts, entered, cited, Stays, gave-ref, gave-slice}
-use Rattle.walks.proofs.Walking.{walkOf, AllGo, goes-gave-ref, goes-gave-slice, Walks}
-use Rattle.walks.proofs.Walking.{ends-at, walked}
+use Rattle.walks.proofs.Walking.{URA, fullShare, named, Val, vbool, vptr, SProp, ent, emp, id⊢, via, fst∗, Lft, Share}
+use Rattle.walks.proofs.Walking.{GName, ftrue, fat, flft, fobs, Memory, Routine, Heap, Calls, Loops, WpFn, Atoms, Fun}
+use Rattle.walks.proofs.Walking.{givenOf, tables, tablesOf, Given, ‵, raw, _⊛_, ⋆, _$_, _∵_, !, qed, by, move, keep}
+use Rattle.walks.proofs.Walking.{drop, use2, split, join, rewrite, fsplit, fsplit3, fjoin, feqL, suffices, frame}
+use Rattle.walks.proofs.Walking.{done, look, look-raw, init, store-raw, stop, hop, fld, from, load, addr, of-opd}
+use Rattle.walks.proofs.Walking.{and-then, no-more, assigns, land, returns, enter, alloc1, alloc0, params1, pass1}
+use Rattle.walks.proofs.Walking.{pass0, free0, agg, whole, sub, look-in, FmC, owns, RefT, MutRef, sliceVal, MutSlice}
+use Rattle.walks.proofs.Walking.{Room, finally, u64, plain, nothing, onEntry, tripleOf, Contract, Triple, calls-at}
+use Rattle.walks.proofs.Walking.{lasts, entered, cited, walkOf, ends-at}
+use sound.WpLaws.{fmOf}
+use Rattle.walks.proofs.Params.{Param, lent, lent-struct, stays, meets}
+use Rattle.walks.proofs.Params as params
 use Rattle.book.specs.Answers.{toldAdmission}
 use Rattle.book.specs.declared.Admission.{Admission}
 use Rattle.book.specs.declared.PrintPath.{PrintPath}
@@ -27,10 +28,10 @@ use Rattle.pricelevel.specs.declared.Quantity.{Quantity}
 use Rattle.pricelevel.specs.declared.Seq.{Seq}
 use Rattle.stop_terms.specs.declared.StopTerms.{StopTerms}
 use Rattle.walks.proofs.Claims.{All, claimed}
-use Rattle.walks.proofs.Plain.{Plain, flag, Stands, rows, spells, valsOf, tellss, Held, drops, drops-go, value, stands}
+use Rattle.walks.proofs.Plain.{Plain, flag, Stands, rows, valsOf, Held, value, stands}
 use Rattle.walks.proofs.Types.{PathOf, LastOf, IdOf, TermsOf, QuantityOf, AdmittedOf, AdmissionOf, admission-parts}
 use Rattle.walks.proofs.Frame.{full, frees-all}
-use Rattle.walks.proofs.Lent.{has, lets-go, reads, shuts, answers, asks-with, meets}
+use Rattle.walks.proofs.Lent.{has, lets-go, reads, shuts, answers, asks-with}
 use Rattle.admission.proofs.admit_trailing_stop as callee
 use Rattle.admission.proofs.admit_trailing_stop.Symbol as callee-def
 use Rattle.admission.proofs.admit_trailing_stop.Symbol.{name as #callee}
@@ -44,9 +45,10 @@ use Rattle.lent_store.proofs.admit_trailing_stop.Code as code
 abbrev Ps : List Plain
 Ps = flag ∷ LastOf ∷ IdOf ∷ TermsOf ∷ QuantityOf ∷ []
 
--- at exit only the last values are had
-abbrev stayed : Stays (f.ended .signature .params) (f.ended .kept)
-stayed = (gave-slice (0 ∷ []) tt (plain (λ _. u64)), (gave-ref (1 ∷ []) tt (plain (λ _. PathOf .row)), drops 2 Ps))
+-- all parameters, by their kinds
+abbrev Qs : List (Param 2)
+Qs = lent 2 0 tt u64 ∷ lent-struct 2 1 tt (PathOf .row) ∷ params.value 2 flag ∷ params.value 2 LastOf ∷ params.value 2 IdOf
+    ∷ params.value 2 TermsOf ∷ params.value 2 QuantityOf ∷ []
 
 module _ {M : Type 1} (𝓤 : URA M) (H : Heap 𝓤) (A : Atoms 𝓤) (at-mem : Memory → SProp 𝓤) (run : Routine → Fun 𝓤) where
   abbrev Callee : Contract 𝓤
@@ -80,7 +82,7 @@ module _ {M : Type 1} (𝓤 : URA M) (H : Heap 𝓤) (A : Atoms 𝓤) (W : Given
   args = vbool kill ∷ LastOf .val trade ∷ IdOf .val id ∷ TermsOf .val terms ∷ QuantityOf .val quantity ∷ []
 
   abbrev Post : Val → SProp 𝓤
-  Post = walkOf 𝓤 H A f.ended stayed (f.clauses 𝓤 H A at-mem run) .post (((κ, (κ′, tt)), (q, (q′, tt)), tt, a, at), tt)
+  Post = walkOf 𝓤 H A f.ended (stays 2 Qs) (f.clauses 𝓤 H A at-mem run) .post (((κ, (κ′, tt)), (q, (q′, tt)), tt, a, at), tt)
 
   -- ---- the call: the store goes to it for good
   abbrev to : Callee 𝓤 H A at-mem run .Ghost
@@ -98,7 +100,7 @@ module _ {M : Type 1} (𝓤 : URA M) (H : Heap 𝓤) (A : Atoms 𝓤) (W : Given
       ∷ [])) (Post (AdmittedOf .val (r .answer)))
   exits r is zs l e =
       qed W (‵ (finally u64 (xs .name) zs) ∷ (‵ (flft κ q) ⊛ ‵ ftrue) ∷ ‵ (fobs γ (PathOf .row .coded .code (r .path))) ∷ ‵ (flft κ′ q′) ∷ []) ∵
-      suffices ! _ (ends-at 𝓤 H A f.ended stayed (f.clauses 𝓤 H A at-mem run) W (((κ, (κ′, tt)), (q, (q′, tt)), tt, a, at), tt)
+      suffices ! _ (ends-at 𝓤 H A f.ended (stays 2 Qs) (f.clauses 𝓤 H A at-mem run) W (((κ, (κ′, tt)), (q, (q′, tt)), tt, a, at), tt)
       (AdmittedOf .val (r .answer)) (r .answer) (zs, (r .path, (tt, (tt, (tt, (tt, (tt, tt))))))) (l, (tt, (tt, (tt, (tt, (tt, (tt, tt)))))))) $
       claimed ! (Did r zs) e $
       -- the tokens
@@ -155,27 +157,15 @@ module _ {M : Type 1} (𝓤 : URA M) (H : Heap 𝓤) (A : Atoms 𝓤) (W : Given
         returns ! (look ! 30 refl) $ frees-all ! 8 (full _ ∷ full _ ∷ full _ ∷ full _ ∷ full _ ∷ full _ ∷ full _ ∷ full _ ∷ full _ ∷ full _ ∷ full _ ∷ full _ ∷ []) tt refl $
         free0 ! $ keep ! (3 ∷ 5 ∷ 0 ∷ 2 ∷ []) $ by ! (exits r (stands AdmissionOf r w is) (zs .0) l e)))))))))))))))))
 
-module _ {M : Type 1} (𝓤 : URA M) (H : Heap 𝓤) (A : Atoms 𝓤) (W : Given 𝓤 H A) (at-mem : Memory → SProp 𝓤) (run : Routine → Fun 𝓤) where
-  walks : (C : Calls 𝓤 H) (Λ : Loops 𝓤 H) → FmC 𝓤 H (W .laws) C → Triple 𝓤 (C #callee) (Callee 𝓤 H A at-mem run)
-      → Walks 𝓤 H A f.ended stayed (WpFn 𝓤 H C Λ code.function) (f.clauses 𝓤 H A at-mem run)
-  walks C Λ fm known = walked 𝓤 H A f.ended stayed (f.clauses 𝓤 H A at-mem run) (WpFn 𝓤 H C Λ code.function)
-      (λ κs. (slice-vals, (ptr-vals, spells Ps)))
-      (λ κs. (mut-slice-tells (named 0) (κs .0) u64, (mut-tells (named 1) (κs .1 .0) (PathOf .row), tellss Ps)))
-      (λ κs qs bounds a g are. via 𝓤 _ (fst∗ 𝓤 _ (emp 𝓤))
-      (walk 𝓤 H A W at-mem run (κs .0) (κs .1 .0) (qs .0) (qs .1 .0) (a .0) (a .1 .0 .ptr .0) (a .1 .0 .ptr .1) (a .1 .0 .name) (a .1 .0 .now)
-      (a .1 .1 .0) (a .1 .1 .1 .0) (a .1 .1 .1 .1 .0) (a .1 .1 .1 .1 .1 .0) (a .1 .1 .1 .1 .1 .1 .0) (are .1 .1) C Λ fm known (are .0 .0 .1)))
-
-module _ {M : Type 1} (𝓤 : URA M) (H : Heap 𝓤) (A : Atoms 𝓤) (W : Given 𝓤 H A) where
-  goes : AllGo 𝓤 H A W 2 (f.signature .params) (f.ended .kept) stayed
-  goes = (goes-gave-slice 𝓤 H A W 2 0 tt (plain (λ _. u64)), (goes-gave-ref 𝓤 H A W 2 1 tt (plain (λ _. PathOf .row)), drops-go 2 Ps 𝓤 H A W))
-
 pub admit-trailing-stop-spec : {M : Type 1} → stated.statement M
 unfolding code.routine tablesOf
 admit-trailing-stop-spec 𝓤 H 𝓜 𝓖 𝓡 =
     entered 𝓤 H (tripleOf 𝓤 H (𝓖 .A) f.signature (f.spec 𝓤 H (𝓖 .A) (𝓜 .mem) (𝓡 .run)))
     (tables 𝓤 H 𝓜 𝓡 code.env .C) (tables 𝓤 H 𝓜 𝓡 code.env .Λ) #admit-trailing-stop code.function (code.unfolded 𝓤 H 𝓜 𝓡)
-    (meets 𝓤 H (𝓖 .A) (givenOf 𝓤 H 𝓜 𝓖) f.ended stayed (goes 𝓤 H (𝓖 .A) (givenOf 𝓤 H 𝓜 𝓖))
-    (f.clauses 𝓤 H (𝓖 .A) (𝓜 .mem) (𝓡 .run)) code.function #callee (Callee 𝓤 H (𝓖 .A) (𝓜 .mem) (𝓡 .run))
-    (walks 𝓤 H (𝓖 .A) (givenOf 𝓤 H 𝓜 𝓖) (𝓜 .mem) (𝓡 .run)) (tablesOf 𝓤 H 𝓜 (tables 𝓤 H 𝓜 𝓡 code.env))
-    (cited 𝓤 H (Callee 𝓤 H (𝓖 .A) (𝓜 .mem) (𝓡 .run)) 𝓜 𝓡 code.env #callee callee-def.routine code.calls-admission·admit-trailing-stop
-    (callee-thm.met 𝓤 H 𝓜 𝓖 𝓡)))
+    (meets 2 Qs (plain (λ _. AdmittedOf .row)) 𝓤 H (𝓖 .A) (givenOf 𝓤 H 𝓜 𝓖) (f.clauses 𝓤 H (𝓖 .A) (𝓜 .mem) (𝓡 .run)) code.function
+    (tablesOf 𝓤 H 𝓜 (tables 𝓤 H 𝓜 𝓡 code.env)) (λ κs qs bounds a g are. via 𝓤 _ (fst∗ 𝓤 _ (emp 𝓤))
+    (walk 𝓤 H (𝓖 .A) (givenOf 𝓤 H 𝓜 𝓖) (𝓜 .mem) (𝓡 .run) (κs .0) (κs .1 .0) (qs .0) (qs .1 .0) (a .0) (a .1 .0 .ptr .0) (a .1 .0 .ptr .1) (a .1 .0 .name) (a .1 .0 .now) (a .1 .1 .0) (a .1 .1 .1 .0) (a .1 .1 .1 .1 .0) (a .1 .1 .1 .1 .1 .0) (a .1 .1 .1 .1 .1 .1 .0) (are .1 .1)
+    (tables 𝓤 H 𝓜 𝓡 code.env .C) (tables 𝓤 H 𝓜 𝓡 code.env .Λ)
+    (fmOf 𝓤 H (givenOf 𝓤 H 𝓜 𝓖 .laws) (tablesOf 𝓤 H 𝓜 (tables 𝓤 H 𝓜 𝓡 code.env)))
+    (cited 𝓤 H (Callee 𝓤 H (𝓖 .A) (𝓜 .mem) (𝓡 .run)) 𝓜 𝓡 code.env #callee
+    callee-def.routine code.calls-admission·admit-trailing-stop (callee-thm.met 𝓤 H 𝓜 𝓖 𝓡)) (are .0 .0 .1))))
