@@ -16,6 +16,7 @@ use Rattle.chains.specs.Links.{Linked}
 use Rattle.book.specs.Sizes.{nextByStop}
 
 module _ (n : ℕ) (w : List ℕ) (k : ℕ) where
+
   ------------------------------------------------------------------------
   -- Heads and links
 
