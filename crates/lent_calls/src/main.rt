@@ -154,12 +154,11 @@ fn settings() -> Settings {
     }
 }
 
-// The path is recorded at the first print of a sweep from 102 down to 96, which ratchets the stop and elects it.
-fn main() {
-    let mut s = [0u64; 64];
-    let _laid = stop_orders::layout_store(&mut s, 4, 0);
+// Lays a store out for four stops and admits one; the path after it.
+fn begin(s: &mut [u64]) -> PrintPath {
+    let _laid = stop_orders::layout_store(s, 4, 0);
     let admitted = admission::admit_trailing_stop(
-        &mut s,
+        s,
         closed_path(),
         false,
         LastPrice::None,
@@ -167,10 +166,35 @@ fn main() {
         terms(),
         Quantity(2),
     );
-    let before = admitted.path;
+    admitted.path
+}
+
+// What a segment answers, and the first entries of its lists.
+fn print_listing(listing: SegmentListing) {
+    let answer = listing.answer;
+    print_answer(answer);
+    let elected = listing.elected;
+    let e = elected[0];
+    let stop = e.stop;
+    let trigger = e.trigger;
+    io::write_all(1, b"elected");
+    number(stop.0);
+    number(trigger.0);
+    let moved = listing.moved;
+    let m = moved[0];
+    let to = m.stop;
+    io::write_all(1, b"\nmoved");
+    number(to.0);
+    io::write_all(1, b"\n");
+}
+
+// A sweep from 102 down to 96: its first print is recorded on the path, and it ratchets the stop to 97 and elects it.
+fn main() {
+    let mut s = [0u64; 64];
+    let before = begin(&mut s);
     let path = recorded_once(before, 1, LastPrice::None, Price(102));
-    io::write_all(1, b"path");
     let first = path.first;
+    io::write_all(1, b"path");
     number(first.0);
     io::write_all(1, b"\n");
     let prints = PrintSegment {
@@ -187,19 +211,5 @@ fn main() {
         [blank_moved(); MOST_MOVES],
         2,
     );
-    let answer = listing.answer;
-    print_answer(answer);
-    let elected = listing.elected;
-    let e = elected[0];
-    io::write_all(1, b"elected");
-    let stop = e.stop;
-    number(stop.0);
-    let trigger = e.trigger;
-    number(trigger.0);
-    let moved = listing.moved;
-    let m = moved[0];
-    io::write_all(1, b"\nmoved");
-    let to = m.stop;
-    number(to.0);
-    io::write_all(1, b"\n");
+    print_listing(listing);
 }
