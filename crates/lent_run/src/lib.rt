@@ -61,7 +61,7 @@ fn run_words(
     let k = least(room, words.len());
     let path = start.path;
     let trade = start.trade;
-    let run = evaluation::run_stop_triggers(s, path, settings, script, trade, &mut words[..k]);
+    let run = stop_run::run_stop_triggers(s, path, settings, script, trade, &mut words[..k]);
     let answer = run.answer;
     ListedRun {
         run: run,

@@ -52,7 +52,7 @@ fn segment_words(
 {
     let i = least(elected_room, elected.len());
     let j = least(moved_room, moved.len());
-    let answer = evaluation::segment(s, settings, prints, &mut elected[..i], &mut moved[..j]);
+    let answer = evaluate_segment::segment(s, settings, prints, &mut elected[..i], &mut moved[..j]);
     SegmentRun {
         answer: answer,
         elected: elected_count(answer),

@@ -42,7 +42,7 @@ fn walk_words(
         ≡ walkCall settings prev (map toPrice (now (prices .entry))) (now (s .entry)) room .elected ⌝ }
 {
     let k = least(room, words.len());
-    let answer = evaluation::walk(s, settings, prev, prices, &mut words[..k]);
+    let answer = evaluate_walk::walk(s, settings, prev, prices, &mut words[..k]);
     Run {
         answer: answer,
         count: elected_count(answer),
