@@ -1,3 +1,4 @@
 pub mod Questions
 pub mod Outcomes
 pub mod Passes
+pub mod Rooms

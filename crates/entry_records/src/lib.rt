@@ -1,0 +1,72 @@
+// The records that the words of a list's entries stand for, read from their words: an elected stop and a moved one.
+use book::Elected;
+use book::ElectedWords;
+use book::Moved;
+use book::MovedWords;
+use pricelevel::Id;
+use pricelevel::IdKind;
+use pricelevel::Price;
+use pricelevel::Quantity;
+use pricelevel::Seq;
+use stop_protection::Limit;
+use stop_protection::LimitPrice;
+use stored_stops::kind_of;
+use stored_stops::side_from;
+ghost use Prim.Native.Nat.{_<_};
+ghost use mathlib.Core.List.{[]};
+ghost use mathlib.Core.Path.{_≡_};
+ghost use lib.ListN.{length, getD};
+ghost use Rattle.entry_records.specs.Records.{limitFrom, electedOf, movedOf};
+
+// A limit, by whether there is one and its price.
+pub fn limit_from(present: u64, price: u64) -> Limit
+    ensures { λ r. ⌜ r ≡ limitFrom present price ⌝ }
+{
+    match present {
+        0 => Limit::None,
+        _ => Limit::At(LimitPrice(price)),
+    }
+}
+
+// The elected entry whose words lie at a place.
+pub fn elected_at(words: &[ElectedWords], at: usize) -> Elected
+    requires { ⌜ at < length (now words) ⌝ }
+    ensures { λ r. ⌜ r ≡ electedOf (getD (now (words .entry)) at []) ⌝ }
+{
+    let e = words[at];
+    Elected {
+        id: Id {
+            kind: kind_of(e[0]),
+            high: e[1],
+            low: e[2],
+        },
+        side: side_from(e[3]),
+        stop: Price(e[4]),
+        quantity: Quantity(e[5]),
+        seq: Seq(e[6]),
+        trigger: Price(e[7]),
+        limit: limit_from(e[8], e[9]),
+        child: Id {
+            kind: IdKind::Uuid,
+            high: e[10],
+            low: e[11],
+        },
+        pending: 0 < e[12],
+    }
+}
+
+// The moved entry whose words lie at a place.
+pub fn moved_at(words: &[MovedWords], at: usize) -> Moved
+    requires { ⌜ at < length (now words) ⌝ }
+    ensures { λ r. ⌜ r ≡ movedOf (getD (now (words .entry)) at []) ⌝ }
+{
+    let m = words[at];
+    Moved {
+        id: Id {
+            kind: kind_of(m[0]),
+            high: m[1],
+            low: m[2],
+        },
+        stop: Price(m[3]),
+    }
+}

@@ -1,0 +1,73 @@
+-- `segment_words` meets its contract: the segment over the parts of the words that the lists have room for.
+use mathlib.Core.Path.{refl, sym}
+use Rattle.word_rooms.proofs.Cut.{part-length}
+use Rattle.lent_segment.proofs.Parts.{segment-words}
+use borrow.Author.Needs.{needs}
+use Rattle.lent_segment.proofs.segment_words.Statement.{statement}
+use Rattle.lent_segment.proofs.segment_words.Tie as tie
+
+least-requires : tie.Need-least-requires
+least-requires c κs = search needs
+
+least-requires-2 : tie.Need-least-requires-2
+least-requires-2 c κs = search needs
+
+slice-relend-prefix-segment : tie.Need-slice-relend-prefix-segment
+slice-relend-prefix-segment c = search needs
+
+slice-aggregate-segment : tie.Need-slice-aggregate-segment
+slice-aggregate-segment c = sym (part-length _ _ _ _ refl (c .before .before .before .least .ensures))
+
+slice-relend-prefix-segment-2 : tie.Need-slice-relend-prefix-segment-2
+slice-relend-prefix-segment-2 c = search needs
+
+slice-aggregate-segment-2 : tie.Need-slice-aggregate-segment-2
+slice-aggregate-segment-2 c = sym (part-length _ _ _ _ refl (c .before .before .before .least2 .ensures))
+
+segment-requires : tie.Need-segment-requires
+segment-requires c κs = search needs
+
+elected-count-requires : tie.Need-elected-count-requires
+elected-count-requires c κs = search needs
+
+moved-count-requires : tie.Need-moved-count-requires
+moved-count-requires c κs = search needs
+
+same-length : tie.Need-same-length
+same-length c = search needs
+
+same-length-2 : tie.Need-same-length-2
+same-length-2 c = search needs
+
+same-length-3 : tie.Need-same-length-3
+same-length-3 c = search needs
+
+returns : tie.Need-returns
+returns c =
+    let g = c .before .before .before .before .before .before in
+    let j = g .before .before .before .before in
+    let i = j .before in
+    let b = i .before .before in
+    let a = b .args in
+    segment-words (a .settings) (a .prints) (a .s .now) (a .elected .now) (a .moved .now) (a .elected-room)
+    (a .moved-room) _ _ (b .pre)
+    (i .least .ensures) (j .least2 .ensures) _ _ _ _ _ _ (c .before .elected-count .ensures) (c .moved-count .ensures)
+    (g .segment .ensures)
+
+pub segment-words-spec : {M : Type 1} → statement M
+segment-words-spec =
+    tie.close
+    (tie.spec
+    least-requires
+    least-requires-2
+    slice-relend-prefix-segment
+    slice-aggregate-segment
+    slice-relend-prefix-segment-2
+    slice-aggregate-segment-2
+    segment-requires
+    elected-count-requires
+    moved-count-requires
+    same-length
+    same-length-2
+    same-length-3
+    returns)

@@ -1,5 +1,0 @@
-pub mod Answers
-pub mod Listings
-pub mod Local
-pub mod Parts
-pub mod Rooms

@@ -1,0 +1,16 @@
+pub mod Again
+pub mod Buffers
+pub mod Claims
+pub mod Constants
+pub mod Evaluating
+pub mod Filling
+pub mod Frame
+pub mod Lent
+pub mod Lets
+pub mod Locals
+pub mod Params
+pub mod Placing
+pub mod Plain
+pub mod Types
+pub mod Walking
+pub mod Written
