@@ -1,0 +1,136 @@
+// Lines that evaluate a store, and the lists that they lend: every word of these is the same before a call, so that all that the call wrote
+// is printed, and an entry behind the last that it lists as well, should it write there.
+use crate::lending::LENT;
+use crate::names;
+use crate::numbers::four;
+use crate::numbers::rest;
+use crate::numbers::two;
+use crate::printing;
+use book::ELECTED_WORDS;
+use book::ElectedWords;
+use book::MOVED_WORDS;
+use book::MovedWords;
+use yubtomiq::yubtomiq_evaluate_pending_stops;
+use yubtomiq::yubtomiq_run_stop_triggers;
+use yubtomiq::yubtomiq_segment;
+use yubtomiq::yubtomiq_walk;
+ghost use Prim.Native.Nat.{_≤_};
+ghost use mathlib.Core.Path.{_≡_};
+ghost use lib.ListN.{length};
+
+fn lend_elected(list: &mut [ElectedWords]) {
+    let mut i: usize = 0;
+    while i < list.len() {
+        list[i] = [LENT; ELECTED_WORDS];
+        i += 1;
+    }
+}
+
+fn lend_moved(list: &mut [MovedWords]) {
+    let mut i: usize = 0;
+    while i < list.len() {
+        list[i] = [LENT; MOVED_WORDS];
+        i += 1;
+    }
+}
+
+// Whether some word of an entry is not as it was lent.
+fn wrote(entry: &[u64]) -> bool {
+    let mut i: usize = 0;
+    while i < entry.len() {
+        if entry[i] != LENT {
+            return true;
+        }
+        i += 1;
+    }
+    false
+}
+
+// An entry that a call wrote, with its place.
+fn entry(name: &[u8], i: usize, words: &[u64]) {
+    if wrote(words) {
+        printing::text(name);
+        printing::number(i as u64);
+        printing::text(b":");
+        printing::words(words);
+    }
+}
+
+fn elected_entries(list: &[ElectedWords]) {
+    let mut i: usize = 0;
+    while i < list.len() {
+        let e = list[i];
+        entry(b", elected ", i, &e);
+        i += 1;
+    }
+}
+
+fn moved_entries(list: &[MovedWords]) {
+    let mut i: usize = 0;
+    while i < list.len() {
+        let e = list[i];
+        entry(b", moved ", i, &e);
+        i += 1;
+    }
+}
+
+fn segment(s: &mut [u64], n: &[u64], elected: &mut [ElectedWords], moved: &mut [MovedWords]) {
+    let mut answer = [LENT; 2];
+    let r = yubtomiq_segment(s, &four(n), &four(rest(n, 4)), elected, moved, &mut answer);
+    printing::answer(r, &answer);
+}
+
+fn walk(s: &mut [u64], n: &[u64], elected: &mut [ElectedWords]) {
+    let mut answer = [LENT; 2];
+    let r = yubtomiq_walk(s, &four(n), &two(rest(n, 4)), rest(n, 6), elected, &mut answer);
+    printing::answer(r, &answer);
+}
+
+fn pass(s: &mut [u64], n: &[u64], elected: &mut [ElectedWords]) {
+    let mut answer = [LENT; 3];
+    let r = yubtomiq_evaluate_pending_stops(
+        s,
+        &four(n),
+        rest(n, 8),
+        &four(rest(n, 4)),
+        elected,
+        &mut answer,
+    );
+    printing::answer(r, &answer);
+}
+
+fn triggers(s: &mut [u64], path: &mut [u64; 4], n: &[u64], elected: &mut [ElectedWords]) {
+    let mut answer = [LENT; 3];
+    let r = yubtomiq_run_stop_triggers(
+        s,
+        path,
+        &four(n),
+        rest(n, 6),
+        &two(rest(n, 4)),
+        elected,
+        &mut answer,
+    );
+    printing::answer(r, &answer);
+    printing::path(path);
+}
+
+// Lends both lists, whole, and prints what the call wrote there.
+pub fn run(
+    call: u64,
+    s: &mut [u64],
+    path: &mut [u64; 4],
+    n: &[u64],
+    elected: &mut [ElectedWords],
+    moved: &mut [MovedWords],
+) {
+    lend_elected(elected);
+    lend_moved(moved);
+    match call {
+        names::SEGMENT => segment(s, n, elected, moved),
+        names::WALK => walk(s, n, elected),
+        names::PASS => pass(s, n, elected),
+        _ => triggers(s, path, n, elected),
+    }
+    elected_entries(elected);
+    moved_entries(moved);
+}
