@@ -1,4 +1,5 @@
-// The store's calls on the lines of the file stdin, which model/store_cases.py made; stdout holds what the model answers.
+// The store's calls and those that take values alone, on the lines of the file stdin; stdout holds what the model answers. model/cases.py
+// made both.
 fn main() {
     session::session();
 }
