@@ -128,7 +128,7 @@ class Session:
     def shown(self):
         if self.show == 1:
             return ", words" + "".join(f" {p}={v}" for p, v in enumerate(self.words()) if v != self.before[p])
-        return stops(self.buffer[2], book.read(self.words()).stops()) if self.show == 2 else ""
+        return stops(self.before, self.words()) if self.show == 2 else ""
 
     def on_store(self, name, n):
         self.before = self.words() + self.before[self.size:]
@@ -161,10 +161,12 @@ def listed(elected, moved):
     return line + "".join(f", moved {k}: {' '.join(map(str, m))}" for k, m in enumerate(moved))
 
 
-def stops(following, pending):
-    """The next sequence, the pending count, and the data of each stop by rising sequence."""
-    rows = "".join(" | " + " ".join(map(str, s.words())) for s in sorted(pending, key=lambda s: s.seq))
-    return f", stops {following} {len(pending)}{rows}"
+def stops(before, after):
+    """The next sequence and the pending count; each stop that is not as it was, by rising sequence; the sequence of each that is gone."""
+    old, new = book.read(before).records, book.read(after).records
+    changed = [s for s, was in zip(new, old) if s and (was is None or s.words() != was.words())]
+    line = f", stops {after[2]} {after[1]}" + "".join(" | " + " ".join(map(str, s.words())) for s in sorted(changed, key=lambda s: s.seq))
+    return line + "".join(f" - {was.seq}" for s, was in zip(new, old) if was and not s)
 
 
 def answers(lines):

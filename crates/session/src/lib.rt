@@ -20,7 +20,8 @@
 //     store W ..        these words                         back              the words as they were before the last call
 //     book TICK NEXT COUNT STOP ..   a store of one record more than the stops, each admitted under its sequence
 //     path W W W W      the print path                      lists N M         lists of N elected and M moved
-//     show K            after a call on the store: 0 nothing, 1 the words that changed, 2 the pending stops by rising sequence
+//     show K            after a call on the store: 0 nothing; 1 the words that changed; 2 next sequence, pending count, the stops that changed
+//                       by rising sequence, and the sequence of each that is gone
 mod lending;
 mod listed;
 mod names;
