@@ -1,7 +1,7 @@
 // What a session lends, and the lines that set it.
 use crate::names;
 use crate::numbers::four;
-use crate::numbers::rest;
+use crate::numbers::set;
 use crate::numbers::word;
 use crate::printing;
 use crate::store_lines;
@@ -84,18 +84,11 @@ fn with_show(desk: Desk, show: u64) -> Desk {
     }
 }
 
-fn set(s: &mut [u64], p: u64, v: u64) {
-    let at = p as usize;
-    if at < s.len() {
-        s[at] = v;
-    }
-}
-
 // Lines that set words.
 fn set_words(call: u64, words: &mut [u64], before: &[u64], n: &[u64]) {
     match call {
         names::WORDS => fill(words, word(n, 1)),
-        names::SET => set(words, word(n, 0), word(n, 1)),
+        names::SET => set(words, word(n, 0) as usize, word(n, 1)),
         names::STORE => copy(n, words),
         names::BACK => copy(before, words),
         names::BOOK => printing::number(store_lines::book(words, n)),

@@ -56,11 +56,19 @@ fn entry(name: &[u8], i: usize, words: &[u64]) {
     }
 }
 
+fn elected_entry(i: usize, words: &ElectedWords) {
+    entry(b", elected ", i, words);
+}
+
+fn moved_entry(i: usize, words: &MovedWords) {
+    entry(b", moved ", i, words);
+}
+
 fn elected_entries(list: &[ElectedWords]) {
     let mut i: usize = 0;
     while i < list.len() {
         let e = list[i];
-        entry(b", elected ", i, &e);
+        elected_entry(i, &e);
         i += 1;
     }
 }
@@ -69,7 +77,7 @@ fn moved_entries(list: &[MovedWords]) {
     let mut i: usize = 0;
     while i < list.len() {
         let e = list[i];
-        entry(b", moved ", i, &e);
+        moved_entry(i, &e);
         i += 1;
     }
 }
@@ -77,13 +85,13 @@ fn moved_entries(list: &[MovedWords]) {
 fn segment(s: &mut [u64], n: &[u64], elected: &mut [ElectedWords], moved: &mut [MovedWords]) {
     let mut answer = [LENT; 2];
     let r = yubtomiq_segment(s, &four(n), &four(rest(n, 4)), elected, moved, &mut answer);
-    printing::answer(r, &answer);
+    printing::two(r, &answer);
 }
 
 fn walk(s: &mut [u64], n: &[u64], elected: &mut [ElectedWords]) {
     let mut answer = [LENT; 2];
     let r = yubtomiq_walk(s, &four(n), &two(rest(n, 4)), rest(n, 6), elected, &mut answer);
-    printing::answer(r, &answer);
+    printing::two(r, &answer);
 }
 
 fn pass(s: &mut [u64], n: &[u64], elected: &mut [ElectedWords]) {
@@ -96,7 +104,7 @@ fn pass(s: &mut [u64], n: &[u64], elected: &mut [ElectedWords]) {
         elected,
         &mut answer,
     );
-    printing::answer(r, &answer);
+    printing::three(r, &answer);
 }
 
 fn triggers(s: &mut [u64], path: &mut [u64; 4], n: &[u64], elected: &mut [ElectedWords]) {
@@ -110,8 +118,24 @@ fn triggers(s: &mut [u64], path: &mut [u64; 4], n: &[u64], elected: &mut [Electe
         elected,
         &mut answer,
     );
-    printing::answer(r, &answer);
+    printing::three(r, &answer);
     printing::path(path);
+}
+
+fn evaluate(
+    call: u64,
+    s: &mut [u64],
+    path: &mut [u64; 4],
+    n: &[u64],
+    elected: &mut [ElectedWords],
+    moved: &mut [MovedWords],
+) {
+    match call {
+        names::SEGMENT => segment(s, n, elected, moved),
+        names::WALK => walk(s, n, elected),
+        names::PASS => pass(s, n, elected),
+        _ => triggers(s, path, n, elected),
+    }
 }
 
 // Lends both lists, whole, and prints what the call wrote there.
@@ -125,12 +149,7 @@ pub fn run(
 ) {
     lend_elected(elected);
     lend_moved(moved);
-    match call {
-        names::SEGMENT => segment(s, n, elected, moved),
-        names::WALK => walk(s, n, elected),
-        names::PASS => pass(s, n, elected),
-        _ => triggers(s, path, n, elected),
-    }
-    elected_entries(elected);
-    moved_entries(moved);
+    evaluate(call, s, path, n, elected, moved);
+    elected_entries(&elected[..]);
+    moved_entries(&moved[..]);
 }

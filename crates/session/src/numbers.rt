@@ -69,6 +69,13 @@ pub fn word(n: &[u64], p: usize) -> u64 {
     0
 }
 
+// Sets the word at a place; beyond the last, none.
+pub fn set(n: &mut [u64], p: usize, v: u64) {
+    if p < n.len() {
+        n[p] = v;
+    }
+}
+
 // The words from a place on; none beyond the last.
 pub fn rest(n: &[u64], at: usize) -> &[u64] {
     if at <= n.len() {

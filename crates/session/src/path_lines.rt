@@ -17,7 +17,7 @@ fn record(path: &mut [u64; 4], n: &[u64]) {
 fn take(path: &mut [u64; 4], n: &[u64]) {
     let mut answer = [LENT; 5];
     let r = yubtomiq_take_path(path, &two(n), &mut answer);
-    printing::answer(r, &answer);
+    printing::five(r, &answer);
 }
 
 fn reset(path: &mut [u64; 4]) {

@@ -22,10 +22,40 @@ pub fn words(n: &[u64]) {
 }
 
 // What a call returned, and the words of its answer.
-pub fn answer(returned: u64, words_of: &[u64]) {
+fn answer(returned: u64, answered: &[u64]) {
     number(returned);
     text(b", answer");
-    words(words_of);
+    words(answered);
+}
+
+// The same for answers of so many words: the type has their number, which a slice of what a call wrote would have to show.
+
+pub fn one(returned: u64, answered: &[u64; 1]) {
+    answer(returned, answered);
+}
+
+pub fn two(returned: u64, answered: &[u64; 2]) {
+    answer(returned, answered);
+}
+
+pub fn three(returned: u64, answered: &[u64; 3]) {
+    answer(returned, answered);
+}
+
+pub fn four(returned: u64, answered: &[u64; 4]) {
+    answer(returned, answered);
+}
+
+pub fn five(returned: u64, answered: &[u64; 5]) {
+    answer(returned, answered);
+}
+
+pub fn nine(returned: u64, answered: &[u64; 9]) {
+    answer(returned, answered);
+}
+
+pub fn ten(returned: u64, answered: &[u64; 10]) {
+    answer(returned, answered);
 }
 
 // The words of the path.

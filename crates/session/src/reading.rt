@@ -85,7 +85,7 @@ struct Turn {
 }
 
 // Reads on behind the bytes kept of a line, and runs the lines that end.
-fn turn(
+fn read_on(
     text: &mut [u8],
     kept: usize,
     words: &mut [u64],
@@ -111,8 +111,35 @@ fn turn(
     }
 }
 
-// Runs every line of standard input. Each turn reads a byte at least, and the count ends at 2^62, which no input reaches. A line that does
-// not end, or is longer than a block, is not run.
+// Runs every line of standard input, and answers how many bytes of a last line did not end. Each turn reads a byte at least, and the count
+// ends at 2^62, which no input reaches.
+fn turns(
+    block: &mut [u8],
+    words: &mut [u64],
+    before: &mut [u64],
+    read: &mut [u64],
+    path: &mut [u64; 4],
+    elected: &mut [ElectedWords],
+    moved: &mut [MovedWords],
+) -> usize
+    requires { ⌜ length (now block) ≤ 65536 ⌝ }
+{
+    let mut desk = lending::empty();
+    let mut kept: usize = 0;
+    let mut total: usize = 0;
+    while total < 0x4000_0000_0000_0000 {
+        let t = read_on(block, kept, words, before, read, path, elected, moved, desk);
+        if t.got == 0 {
+            return kept;
+        }
+        total += t.got;
+        kept = t.kept;
+        desk = t.desk;
+    }
+    kept
+}
+
+// Runs every line of standard input. A line that does not end, or is longer than a block, is not run.
 pub fn session() {
     let mut block = io::large_buffer();
     let mut words = [0u64; lending::MOST_WORDS];
@@ -121,29 +148,16 @@ pub fn session() {
     let mut path = [0u64; 4];
     let mut elected = [[0u64; ELECTED_WORDS]; lending::MOST_ELECTED];
     let mut moved = [[0u64; MOVED_WORDS]; lending::MOST_MOVED];
-    let mut desk = lending::empty();
-    let mut kept: usize = 0;
-    let mut total: usize = 0;
-    while total < 0x4000_0000_0000_0000 {
-        let t = turn(
-            &mut block,
-            kept,
-            &mut words,
-            &mut before,
-            &mut read,
-            &mut path,
-            &mut elected,
-            &mut moved,
-            desk,
-        );
-        if t.got == 0 {
-            break;
-        }
-        total += t.got;
-        kept = t.kept;
-        desk = t.desk;
-    }
-    if kept > 0 {
+    let left = turns(
+        &mut block,
+        &mut words,
+        &mut before,
+        &mut read,
+        &mut path,
+        &mut elected,
+        &mut moved,
+    );
+    if left > 0 {
         printing::text(b"a line without an end\n");
     }
 }

@@ -29,8 +29,25 @@ fn evaluate(
     let m = desk.moved;
     if e <= elected.len() {
         if m <= moved.len() {
-            listed::run(call, s, path, n, &mut elected[..e], &mut moved[..m]);
+            listed::run(call, s, path, n, &mut elected[0..e], &mut moved[0..m]);
         }
+    }
+}
+
+// A call that may alter the store.
+fn alter(
+    call: u64,
+    s: &mut [u64],
+    path: &mut [u64; 4],
+    n: &[u64],
+    elected: &mut [ElectedWords],
+    moved: &mut [MovedWords],
+    desk: Desk,
+) {
+    if call < names::SEGMENT {
+        store_lines::alter(call, s, path, n);
+    } else {
+        evaluate(call, s, path, n, elected, moved, desk);
     }
 }
 
@@ -50,11 +67,7 @@ fn on_store(
         return;
     }
     lending::copy(&s[..], before);
-    if call < names::SEGMENT {
-        store_lines::alter(call, s, path, n);
-    } else {
-        evaluate(call, s, path, n, elected, moved, desk);
-    }
+    alter(call, s, path, n, elected, moved, desk);
     shown::show(desk.show, &s[..], &before[..]);
 }
 
@@ -84,7 +97,7 @@ fn call(
     if size <= words.len() {
         on_store(
             call,
-            &mut words[..size],
+            &mut words[0..size],
             before,
             path,
             n,

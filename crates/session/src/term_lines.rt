@@ -19,7 +19,7 @@ use yubtomiq::yubtomiq_trailed;
 fn trailed(n: &[u64]) {
     let mut answer = [LENT; 4];
     let r = yubtomiq_trailed(&four(n), word(n, 4), &mut answer);
-    printing::answer(r, &answer);
+    printing::four(r, &answer);
 }
 
 fn preview(n: &[u64]) {
@@ -32,19 +32,19 @@ fn preview(n: &[u64]) {
         word(n, 4),
         &mut answer,
     );
-    printing::answer(r, &answer);
+    printing::three(r, &answer);
 }
 
 fn limit(n: &[u64]) {
     let mut answer = [LENT; 2];
     let r = yubtomiq_limit_price(word(n, 0), word(n, 1), word(n, 2), &mut answer);
-    printing::answer(r, &answer);
+    printing::two(r, &answer);
 }
 
 fn child(n: &[u64]) {
     let mut answer = [LENT; 3];
     let r = yubtomiq_stop_trigger_order_id(&two(n), &three(rest(n, 2)), &mut answer);
-    printing::answer(r, &answer);
+    printing::three(r, &answer);
 }
 
 // A call that returns a number alone.
