@@ -30,7 +30,7 @@ pub fn segment(
         × (now (moved .exit) ≡ written (map movedWords (o .moved)) (now (moved .entry)))) ⌝ }
 {
     let of = settings_of(settings);
-    let evaluated = evaluation::segment(s, of, prints_of(prints), elected, moved);
+    let evaluated = evaluate_segment::segment(s, of, prints_of(prints), elected, moved);
     of_evaluation(evaluated, answer)
 }
 
@@ -49,6 +49,6 @@ pub fn walk(
         × (now (elected .exit) ≡ written (map electedWords (o .elected)) (now (elected .entry)))) ⌝ }
 {
     let of = settings_of(settings);
-    let evaluated = evaluation::walk(s, of, last_price_of(prev), prices, elected);
+    let evaluated = evaluate_walk::walk(s, of, last_price_of(prev), prices, elected);
     of_evaluation(evaluated, answer)
 }

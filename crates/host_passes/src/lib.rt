@@ -32,7 +32,7 @@ pub fn evaluate_pending_stops(
 {
     let of = settings_of(settings);
     let first = prints_of(prints);
-    let passed = evaluation::evaluate_pending_stops(s, of, script, first, elected);
+    let passed = evaluate_pass::evaluate_pending_stops(s, of, script, first, elected);
     of_pass(passed, answer)
 }
 
@@ -59,7 +59,7 @@ pub fn run_stop_triggers(
     }
     let of = settings_of(settings);
     let last = last_price_of(trade);
-    let run = evaluation::run_stop_triggers(s, path_of(path), of, script, last, elected);
+    let run = stop_run::run_stop_triggers(s, path_of(path), of, script, last, elected);
     let after = run.path;
     *path = path_words(after);
     let given = run.answer;

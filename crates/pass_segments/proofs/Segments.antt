@@ -20,6 +20,7 @@ use Rattle.points.proofs.Pointing.{Does}
 use Rattle.script.proofs.Executing.{flags-written}
 use Rattle.script.specs.Execute.{pendingWord, Flags}
 use Rattle.script.specs.Queue.{Enqueued}
+use Rattle.book.proofs.Passing.{entries-length}
 
 module _ (settings : Settings) (prints : PrintSegment) where
   -- the elected of the segment

@@ -16,6 +16,7 @@ use Rattle.book.specs.declared.PrintSegment.{PrintSegment}
 use Rattle.script.specs.Execute.{pendingWord, Flags, Advanced}
 use Rattle.script.specs.Queue.{Enqueued}
 use Rattle.script.proofs.Queueing.{enqueued-none, enqueued-then, enqueued-length}
+use Rattle.book.proofs.Lists.{getD-sets-before}
 
 -- behind the used entries: the first elected, then the others behind those that it used
 module _ (script : List ℕ) (used : ℕ) (e : Elected) (es : List Elected) where
