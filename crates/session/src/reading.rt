@@ -111,45 +111,45 @@ fn read_on(
     }
 }
 
-// Runs every line of standard input, and answers how many bytes of a last line did not end. Each turn reads a byte at least, and the count
-// ends at 2^62, which no input reaches.
-fn turns(
-    block: &mut [u8],
+// The most blocks that are read, more than any input has.
+const MOST_BLOCKS: u64 = 0x1_0000_0000;
+
+// Runs every line of standard input, and answers how many bytes of a last line did not end.
+fn blocks(
+    text: &mut [u8],
     words: &mut [u64],
     before: &mut [u64],
     read: &mut [u64],
     path: &mut [u64; 4],
     elected: &mut [ElectedWords],
     moved: &mut [MovedWords],
-) -> usize
-    requires { ⌜ length (now block) ≤ 65536 ⌝ }
-{
+) -> usize {
     let mut desk = lending::empty();
     let mut kept: usize = 0;
-    let mut total: usize = 0;
-    while total < 0x4000_0000_0000_0000 {
-        let t = read_on(block, kept, words, before, read, path, elected, moved, desk);
+    let mut left = MOST_BLOCKS;
+    while left > 0 {
+        let t = read_on(text, kept, words, before, read, path, elected, moved, desk);
         if t.got == 0 {
             return kept;
         }
-        total += t.got;
         kept = t.kept;
         desk = t.desk;
+        left -= 1;
     }
     kept
 }
 
 // Runs every line of standard input. A line that does not end, or is longer than a block, is not run.
 pub fn session() {
-    let mut block = io::large_buffer();
+    let mut text = io::large_buffer();
     let mut words = [0u64; lending::MOST_WORDS];
     let mut before = [0u64; lending::MOST_WORDS];
     let mut read = [0u64; lending::MOST_WORDS];
     let mut path = [0u64; 4];
     let mut elected = [[0u64; ELECTED_WORDS]; lending::MOST_ELECTED];
     let mut moved = [[0u64; MOVED_WORDS]; lending::MOST_MOVED];
-    let left = turns(
-        &mut block,
+    let left = blocks(
+        &mut text,
         &mut words,
         &mut before,
         &mut read,
