@@ -36,8 +36,6 @@ class Session:
             self.buffer[n[0]] = n[1]
         elif name == "store":
             self.buffer, self.size = n + [0] * (MOST_WORDS - len(n)), len(n)
-        elif name == "back":
-            self.buffer = list(self.before)
         elif name == "path":
             self.path = list(n)
         elif name == "lists":
@@ -142,7 +140,7 @@ class Session:
             return text
         name, *words = text.split(" ")
         n = [int(word) for word in words]
-        if name in ("words", "set", "store", "back", "path", "lists", "show"):
+        if name in ("words", "set", "store", "path", "lists", "show"):
             return self.lend(name, n)
         if name == "book":
             return self.admit_book(n)

@@ -140,7 +140,7 @@ def on_store(name, given, wanted):
         after = stops(before, wanted)
         lines.append(("clear", f"0, path {row(wanted.take(4))}{after}"))
     elif name == "segment":
-        lines += segment(before, given, wanted)
+        lines += segment(before, lines[1], given, wanted)
     elif name == "pass":
         of, prints, entries = settings(given), given.take(4), script(given)
         counts = wanted.take(3)
@@ -150,7 +150,7 @@ def on_store(name, given, wanted):
     return lines + [("well_formed", "1")]
 
 
-def segment(before, given, wanted):
+def segment(before, made, given, wanted):
     """The segment, and a walk along its prints on the same store, which elects and leaves the same."""
     of, prints = settings(given), given.take(4)
     counts = wanted.take(2)
@@ -158,7 +158,7 @@ def segment(before, given, wanted):
     entries = elected(wanted, counts[1])
     after = stops(before, wanted)
     prices = prints[2:3] if prints[2] == prints[3] else prints[2:4]
-    return [(f"segment {of} {row(prints)}", answer(0, counts) + entries + moved + after), ("well_formed", "1"), ("back", ""),
+    return [(f"segment {of} {row(prints)}", answer(0, counts) + entries + moved + after), ("well_formed", "1"), made,
             (f"walk {of} {row(prints[:2] + prices)}", answer(0, counts) + entries + after)]
 
 

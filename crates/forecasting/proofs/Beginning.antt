@@ -11,16 +11,12 @@ use lib.Dec.{eqb, leb}
 use lib.ListN.{length, take, drop, length-drop}
 use lib.Seq.{getD-take, take-take, take-all, length-take-le}
 use Rattle.book.specs.Sizes.{mostRecords, storeLength, mostPrices}
-use Rattle.forecasting.specs.Input.{fourAt, wordAt, wordsAt, wordCount, wordsOf, namedLength, storeIn, counted, pricesIn, SameInput}
+use Rattle.forecasting.specs.Input.{fourAt, wordAt, wordsAt, wordCount, wordsOf, namedLength, storeIn, counted, pricesIn, SameInput, longest}
 use Rattle.forecasting.proofs.Words.{wordsAt-take, wordsOf-length, count-whole, count-none}
 use Rattle.forecasting.proofs.Split.{store-most}
 
 ------------------------------------------------------------------------
 -- Of words
-
--- the longest input that is accepted, in words
-abbrev pub longest : ℕ
-longest = storeLength mostRecords + 1 + mostPrices
 
 counted-long : (w : List ℕ) → mostPrices + 1 < length w → counted w ≡ []
 unfolding counted

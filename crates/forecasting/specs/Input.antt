@@ -49,6 +49,13 @@ counted (count ∷ prices) = cond (leb count mostPrices && eqb (length prices) c
 unfoldable pub pricesIn : List ℕ → List ℕ
 pricesIn w = counted (drop (length (storeIn w)) w)
 
+-- the longest input that is accepted, in words, and two words more, in bytes
+abbrev pub longest : ℕ
+longest = storeLength mostRecords + 1 + mostPrices
+
+abbrev pub roomBytes : ℕ
+roomBytes = 8 * longest + 16
+
 -- two inputs that name the same store and the same prices
 abbrev pub SameInput : List ℕ → List ℕ → Type 0
 SameInput a b = (storeIn (wordsOf a) ≡ storeIn (wordsOf b)) × (pricesIn (wordsOf a) ≡ pricesIn (wordsOf b))

@@ -85,27 +85,19 @@ fn with_show(desk: Desk, show: u64) -> Desk {
 }
 
 // Lines that set words.
-fn set_words(call: u64, words: &mut [u64], before: &[u64], n: &[u64]) {
+fn set_words(call: u64, words: &mut [u64], n: &[u64]) {
     match call {
         names::WORDS => fill(words, word(n, 1)),
         names::SET => set(words, word(n, 0) as usize, word(n, 1)),
         names::STORE => copy(n, words),
-        names::BACK => copy(before, words),
         names::BOOK => printing::number(store_lines::book(words, n)),
         _ => {}
     }
 }
 
 // A line that sets what is lent, and what is lent after it.
-pub fn run(
-    call: u64,
-    words: &mut [u64],
-    before: &[u64],
-    path: &mut [u64; 4],
-    n: &[u64],
-    desk: Desk,
-) -> Desk {
-    set_words(call, words, before, n);
+pub fn run(call: u64, words: &mut [u64], path: &mut [u64; 4], n: &[u64], desk: Desk) -> Desk {
+    set_words(call, words, n);
     match call {
         names::WORDS => with_words(desk, word(n, 0) as usize),
         names::STORE => with_words(desk, n.len()),

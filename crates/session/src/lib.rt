@@ -17,7 +17,7 @@
 // What a session lends, which its own lines set:
 //
 //     words N V         N words, each V                     set P V           word P becomes V
-//     store W ..        these words                         back              the words as they were before the last call
+//     store W ..        these words
 //     book TICK NEXT COUNT STOP ..   a store of one record more than the stops, each admitted under its sequence
 //     path W W W W      the print path                      lists N M         lists of N elected and M moved
 //     show K            after a call on the store: 0 nothing; 1 the words that changed; 2 next sequence, pending count, the stops that changed

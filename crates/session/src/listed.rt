@@ -1,6 +1,8 @@
 // Lines that evaluate a store, and the lists that they lend: every word of these is the same before a call, so that all that the call wrote
 // is printed, and an entry behind the last that it lists as well, should it write there.
 use crate::lending::LENT;
+use crate::lending::MOST_ELECTED;
+use crate::lending::MOST_MOVED;
 use crate::names;
 use crate::numbers::four;
 use crate::numbers::rest;
@@ -17,22 +19,6 @@ use yubtomiq::yubtomiq_walk;
 ghost use Prim.Native.Nat.{_≤_};
 ghost use mathlib.Core.Path.{_≡_};
 ghost use lib.ListN.{length};
-
-fn lend_elected(list: &mut [ElectedWords]) {
-    let mut i: usize = 0;
-    while i < list.len() {
-        list[i] = [LENT; ELECTED_WORDS];
-        i += 1;
-    }
-}
-
-fn lend_moved(list: &mut [MovedWords]) {
-    let mut i: usize = 0;
-    while i < list.len() {
-        list[i] = [LENT; MOVED_WORDS];
-        i += 1;
-    }
-}
 
 // Whether some word of an entry is not as it was lent.
 fn wrote(entry: &[u64]) -> bool {
@@ -138,8 +124,8 @@ fn evaluate(
     }
 }
 
-// Lends both lists, whole, and prints what the call wrote there.
-pub fn run(
+// A call on both lists, and what it wrote there.
+fn on_lists(
     call: u64,
     s: &mut [u64],
     path: &mut [u64; 4],
@@ -147,9 +133,20 @@ pub fn run(
     elected: &mut [ElectedWords],
     moved: &mut [MovedWords],
 ) {
-    lend_elected(elected);
-    lend_moved(moved);
     evaluate(call, s, path, n, elected, moved);
     elected_entries(&elected[..]);
     moved_entries(&moved[..]);
+}
+
+// Lends lists of so many entries, at most one more than a store can need.
+pub fn run(call: u64, s: &mut [u64], path: &mut [u64; 4], n: &[u64], elected: usize, moved: usize) {
+    let mut fills = [[LENT; ELECTED_WORDS]; MOST_ELECTED];
+    let mut moves = [[LENT; MOVED_WORDS]; MOST_MOVED];
+    let e: &mut [ElectedWords] = &mut fills;
+    let m: &mut [MovedWords] = &mut moves;
+    if elected <= e.len() {
+        if moved <= m.len() {
+            on_lists(call, s, path, n, &mut e[0..elected], &mut m[0..moved]);
+        }
+    }
 }

@@ -4,10 +4,6 @@ use crate::lending::Desk;
 use crate::numbers::place_of;
 use crate::printing;
 use crate::running;
-use book::ELECTED_WORDS;
-use book::ElectedWords;
-use book::MOVED_WORDS;
-use book::MovedWords;
 ghost use Prim.Native.Nat.{_+_, _-_, _≤_};
 ghost use mathlib.Core.Path.{_≡_};
 ghost use lib.ListN.{length};
@@ -22,11 +18,7 @@ struct Done {
 fn lines(
     text: &[u8],
     words: &mut [u64],
-    before: &mut [u64],
-    read: &mut [u64],
     path: &mut [u64; 4],
-    elected: &mut [ElectedWords],
-    moved: &mut [MovedWords],
     lent: Desk,
 ) -> Done
     ensures { λ r. ⌜ r .at ≤ length (now (text .entry)) ⌝ }
@@ -38,16 +30,7 @@ fn lines(
         if end == text.len() {
             break;
         }
-        desk = running::line(
-            &text[at..end],
-            words,
-            before,
-            read,
-            path,
-            elected,
-            moved,
-            desk,
-        );
+        desk = running::line(&text[at..end], words, path, desk);
         at = end + 1;
     }
     Done {
@@ -89,11 +72,7 @@ fn read_on(
     text: &mut [u8],
     kept: usize,
     words: &mut [u64],
-    before: &mut [u64],
-    read: &mut [u64],
     path: &mut [u64; 4],
-    elected: &mut [ElectedWords],
-    moved: &mut [MovedWords],
     desk: Desk,
 ) -> Turn
     requires { ⌜ kept ≤ length (now text) ⌝ }
@@ -102,7 +81,7 @@ fn read_on(
 {
     let got = more(text, kept);
     let end = kept + got;
-    let done = lines(&text[0..end], words, before, read, path, elected, moved, desk);
+    let done = lines(&text[0..end], words, path, desk);
     let after = done.desk;
     Turn {
         got: got,
@@ -118,17 +97,13 @@ const MOST_BLOCKS: u64 = 0x1_0000_0000;
 fn blocks(
     text: &mut [u8],
     words: &mut [u64],
-    before: &mut [u64],
-    read: &mut [u64],
     path: &mut [u64; 4],
-    elected: &mut [ElectedWords],
-    moved: &mut [MovedWords],
 ) -> usize {
     let mut desk = lending::empty();
     let mut kept: usize = 0;
     let mut left = MOST_BLOCKS;
     while left > 0 {
-        let t = read_on(text, kept, words, before, read, path, elected, moved, desk);
+        let t = read_on(text, kept, words, path, desk);
         if t.got == 0 {
             return kept;
         }
@@ -143,20 +118,8 @@ fn blocks(
 pub fn session() {
     let mut text = io::large_buffer();
     let mut words = [0u64; lending::MOST_WORDS];
-    let mut before = [0u64; lending::MOST_WORDS];
-    let mut read = [0u64; lending::MOST_WORDS];
     let mut path = [0u64; 4];
-    let mut elected = [[0u64; ELECTED_WORDS]; lending::MOST_ELECTED];
-    let mut moved = [[0u64; MOVED_WORDS]; lending::MOST_MOVED];
-    let left = blocks(
-        &mut text,
-        &mut words,
-        &mut before,
-        &mut read,
-        &mut path,
-        &mut elected,
-        &mut moved,
-    );
+    let left = blocks(&mut text, &mut words, &mut path);
     if left > 0 {
         printing::text(b"a line without an end\n");
     }

@@ -7,10 +7,10 @@ use Rattle.session.proofs.reading.blocks.Statement.{statement}
 use Rattle.session.proofs.reading.blocks.Tie as tie
 
 abbrev Inv-loop : tie.InvT-loop
-Inv-loop text₀ words₀ before₀ read₀ path₀ elected₀ moved₀ desk₀ kept₀ left₀ text words before read path elected moved desk kept left = (kept ≤ length text₀) × (length text ≡ length text₀) × (length words ≡ length words₀) × (length before ≡ length before₀) × (length read ≡ length read₀) × (length elected ≡ length elected₀) × (length moved ≡ length moved₀)
+Inv-loop text₀ words₀ path₀ desk₀ kept₀ left₀ text words path desk kept left = (kept ≤ length text₀) × (length text ≡ length text₀) × (length words ≡ length words₀)
 
 abbrev μ-loop : tie.MeasureT-loop
-μ-loop text₀ words₀ before₀ read₀ path₀ elected₀ moved₀ desk₀ kept₀ left₀ text words before read path elected moved desk kept left = left
+μ-loop text₀ words₀ path₀ desk₀ kept₀ left₀ text words path desk kept left = left
 
 pub blocks-spec : {M : Type 1} → statement M
 blocks-spec =
@@ -21,14 +21,6 @@ blocks-spec =
     (λ c κs. search needs)
     (λ c. search needs)
     (λ c κs. search needs)
-    (λ c. search needs)
-    (λ c. search needs)
-    (λ c. search needs)
-    (λ c. search needs)
-    (λ c. search needs)
-    (λ c. search needs)
-    (λ c. search needs)
-    (λ c. search needs)
     (λ c. search needs)
     (λ c. search needs)
     (λ c. search needs)

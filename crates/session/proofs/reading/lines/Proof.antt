@@ -7,10 +7,10 @@ use Rattle.session.proofs.reading.lines.Statement.{statement}
 use Rattle.session.proofs.reading.lines.Tie as tie
 
 abbrev Inv-loop : tie.InvT-loop
-Inv-loop text words₀ before₀ read₀ path₀ elected₀ moved₀ desk₀ at₀ words before read path elected moved desk at = (at ≤ length text) × (length words ≡ length words₀) × (length before ≡ length before₀) × (length read ≡ length read₀) × (length elected ≡ length elected₀) × (length moved ≡ length moved₀)
+Inv-loop text words₀ path₀ desk₀ at₀ words path desk at = (at ≤ length text) × (length words ≡ length words₀)
 
 abbrev μ-loop : tie.MeasureT-loop
-μ-loop text words₀ before₀ read₀ path₀ elected₀ moved₀ desk₀ at₀ words before read path elected moved desk at = length text - at
+μ-loop text words₀ path₀ desk₀ at₀ words path desk at = length text - at
 
 pub lines-spec : {M : Type 1} → statement M
 lines-spec =
@@ -24,14 +24,6 @@ lines-spec =
     (λ c. search needs)
     (λ c. search needs)
     (λ c κs. search needs)
-    (λ c. search needs)
-    (λ c. search needs)
-    (λ c. search needs)
-    (λ c. search needs)
-    (λ c. search needs)
-    (λ c. search needs)
-    (λ c. search needs)
-    (λ c. search needs)
     (λ c. search needs)
     (λ c. search needs)
     (λ c. search needs)
