@@ -195,7 +195,8 @@ pub fn print_forecast(bytes: &[u8]) {
 
 // How many of the first bytes of an input decide its forecast, where so many are read and so many are left: all where none are left;
 // else one word more than the longest that is accepted is as good as any number, but for what is left of a word.
-pub fn decisive(got: usize, left: usize) -> usize
+fn decisive(got: usize, left: usize) -> usize
+    requires { ⌜ got + left < 2 ^ 64 ⌝ }
     ensures { λ r. ⌜ ((bytes : List ℕ) → length bytes ≡ got + left → ((left ≡ 0 → ⊥) → roomBytes ≤ got) → SameInput (take r bytes) bytes) ⌝ }
     ensures { λ r. ⌜ r ≤ got ⌝ }
 {
@@ -205,7 +206,7 @@ pub fn decisive(got: usize, left: usize) -> usize
     if got < ROOM_BYTES {
         return got;
     }
-    LONGEST_BYTES + 8 + (got % 8 + left % 8) % 8
+    LONGEST_BYTES + 8 + (got + left) % 8
 }
 
 fn room() -> [u8; ROOM_BYTES]

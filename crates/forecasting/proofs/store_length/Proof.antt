@@ -30,8 +30,6 @@ store-length-spec =
     (λ c κs. search needs)
     returns
     word-at-requires
-    (λ c. search needs)
-    (λ c. search needs)
     (λ c κs. search needs)
     returns-2
     (λ c. search needs)

@@ -1,64 +1,49 @@
+-- `forecasting::walk_input` meets its contract: the words that are read are the store's and the prices.
+use native.Mathlib.Omega.{arith}
+use Rattle.forecasting.proofs.Walked.{walked-as}
+use Rattle.forecasting.proofs.Counting.{store-inside, prices-inside, store-read, prices-read}
+use Rattle.forecasting.proofs.Split.{prices-few}
 use borrow.Author.Needs.{needs}
 use Rattle.forecasting.proofs.walk_input.Statement.{statement}
 use Rattle.forecasting.proofs.walk_input.Tie as tie
-use Rattle.forecasting.proofs.walk_input.Reads as reads
-use Rattle.forecasting.proofs.walk_input.Lts as lts
-use Rattle.evaluate_walk.proofs.walk.Reads as walk-reads
-use Rattle.forecasting.proofs.read_words.Reads as read-words-reads
-use Rattle.forecasting.proofs.settings.Reads as settings-reads
-use Rattle.forecasting.proofs.word_count.Reads as word-count-reads
 
--- src/lib.rt:152:9
-word-count-requires : tie.Need-word-count-requires
-word-count-requires c κs = search needs
-
--- src/lib.rt:153:14
 sub-at : tie.Need-sub-at
-sub-at c = ?
+sub-at c =
+    let b = c .before .before .before .before in
+    omega (arith, c .word-count .ensures, prices-few (b .args .bytes .now), b .pre .1 .0)
 
--- src/lib.rt:154:5
 read-words-requires : tie.Need-read-words-requires
-read-words-requires c κs = ?
+read-words-requires c κs = store-inside _ _ (c .before .before .before .before .before .pre .0)
 
--- src/lib.rt:155:5
 read-words-requires-2 : tie.Need-read-words-requires-2
-read-words-requires-2 c κs = ?
+read-words-requires-2 c κs =
+    let b = c .before .before .before .before .before in
+    prices-inside _ _ _ (b .word-count .ensures) (b .before .before .before .before .pre .1 .0)
 
--- src/lib.rt:156:17
-settings-requires : tie.Need-settings-requires
-settings-requires c κs = search needs
-
--- src/lib.rt:156:5
-walk-requires : tie.Need-walk-requires
-walk-requires c κs = search needs
-
--- src/lib.rt:140:1
-same-length : tie.Need-same-length
-same-length c = search needs
-
--- src/lib.rt:140:1
-same-length-2 : tie.Need-same-length-2
-same-length-2 c = search needs
-
--- src/lib.rt:140:1
-same-length-3 : tie.Need-same-length-3
-same-length-3 c = search needs
-
--- src/lib.rt:140:1
 returns : tie.Need-returns
-returns c = ?
+returns c =
+    let after = c .before .before .before in
+    let set = after .before .before .before in
+    let second = set .before .before .before .before in
+    let first = second .before .before .before .before in
+    let counted = first .before .before in
+    let start = counted .before .before .before .before in
+    let bytes = start .args .bytes .now in
+    let store = store-read bytes _ _ (start .pre .0) (first .read-words .ensures) in
+    let prices = prices-read bytes _ _ _ (counted .word-count .ensures) (start .pre .1 .0) (second .read-words2 .ensures) in
+    walked-as _ bytes _ _ _ _ _ _ (set .settings .ensures) store prices (start .pre .1 .1) (after .walk .ensures .0) (after .walk .ensures .1 .1)
 
 pub walk-input-spec : {M : Type 1} → statement M
 walk-input-spec =
     tie.close
     (tie.spec
-    word-count-requires
+    (λ c κs. search needs)
     sub-at
     read-words-requires
     read-words-requires-2
-    settings-requires
-    walk-requires
-    same-length
-    same-length-2
-    same-length-3
+    (λ c κs. search needs)
+    (λ c κs. search needs)
+    (λ c. search needs)
+    (λ c. search needs)
+    (λ c. search needs)
     returns)
