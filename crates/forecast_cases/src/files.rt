@@ -1,4 +1,5 @@
-// The input as a file in the folder that the program runs in, so that a case goes through the same reading as standard input does.
+// The input as a file in the folder that the program runs in, so that a case goes through the same reading as
+// standard input does.
 use forecasting::forecast_of;
 
 // Makes the file of these bytes.

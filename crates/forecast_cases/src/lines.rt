@@ -1,5 +1,6 @@
-// Cases as lines of text. An input is written as document 01 writes one, words in decimal, with a plus for each byte behind them that is no
-// word; `length N` makes the input before it N bytes long, with zeros behind it where it was shorter; a heading starts with #.
+// Cases as lines of text. An input is written as document 01 writes one, words in decimal, with a plus for each
+// byte behind them that is no word; `length N` makes the input before it N bytes long, with zeros behind it where
+// it was shorter; a heading starts with #.
 use crate::files;
 ghost use Prim.Native.Nat.{_+_, _≤_};
 ghost use mathlib.Core.Path.{_≡_};

@@ -1,5 +1,6 @@
-// Stored cases of the program `forecast`, from the file stdin: document 01's examples, runs, refusals in the order of their questions, and
-// the longest input with each length around its end. stdout holds what the model answers; model/cases.py made both.
+// Stored cases of the program `forecast`, from the file stdin: document 01's examples, runs, refusals in the order
+// of their questions, and the longest input with each length around its end. stdout holds what the model answers;
+// model/cases.py made both.
 mod files;
 mod lines;
 

@@ -1,6 +1,6 @@
-// The forecast of document 01: what a walk elects, from a store, a price count and the prices as bytes. What bytes name is decided
-// here, and how many of them are read; every refusal is the walk's own, which is lent no words where the bytes are no words, and no prices where these are not
-// as many as their count.
+// The forecast of document 01: what a walk elects, from a store, a price count and the prices as bytes. What bytes
+// name is decided here, and how many of them are read; every refusal is the walk's own, which is lent no words
+// where the bytes are no words, and no prices where these are not as many as their count.
 mod print;
 mod reading;
 
@@ -26,7 +26,8 @@ ghost use Rattle.book.specs.Answers.{toldCounts};
 ghost use Rattle.listing.specs.Entries.{electedWords};
 ghost use Rattle.forecasting.specs.Input.{fourAt, wordAt, wordsAt, wordCount, wordsOf, storeIn, pricesIn, forecastSettings, SameInput, roomBytes, forecastOf};
 
-// The words of the longest store, and the bytes of the longest input that is accepted: that store, a count, and the most prices.
+// The words of the longest store, and the bytes of the longest input that is accepted: that store, a count, and the
+// most prices.
 const STORE_WORDS: usize = HEADER_WORDS + RECORD_WORDS * MOST_RECORDS;
 
 const LONGEST_BYTES: usize = 8 * (STORE_WORDS + 1 + MOST_PRICES);
@@ -168,9 +169,9 @@ fn most_prices() -> [u64; MOST_PRICES]
     [0; MOST_PRICES]
 }
 
-// Walks an input's store along its prices, the price before them absent, and lists what is elected in a list as long as a store can need.
-// Refused: what the walk refuses, of no words where the bytes are no multiple of 8 (1), of no prices where these are not as many as their
-// count (16).
+// Walks an input's store along its prices, the price before them absent, and lists what is elected in a list as
+// long as a store can need. Refused: what the walk refuses, of no words where the bytes are no multiple of 8 (1),
+// of no prices where these are not as many as their count (16).
 pub fn forecast(bytes: &[u8], elected: &mut [ElectedWords]) -> EvaluationAnswer
     requires { ⌜ length (now elected) ≡ mostRecords ⌝ }
     ensures { λ r. ⌜ toldCounts r ≡ forecastOf (now (bytes .entry)) .answer ⌝ }
@@ -193,8 +194,9 @@ pub fn print_forecast(bytes: &[u8]) {
     }
 }
 
-// How many of the first bytes of an input decide its forecast, where so many are read and so many are left: all where none are left;
-// else one word more than the longest that is accepted is as good as any number, but for what is left of a word.
+// How many of the first bytes of an input decide its forecast, where so many are read and so many are left: all
+// where none are left; else one word more than the longest that is accepted is as good as any number, but for what
+// is left of a word.
 fn decisive(got: usize, left: usize) -> usize
     requires { ⌜ got + left < 2 ^ 64 ⌝ }
     ensures { λ r. ⌜ ((bytes : List ℕ) → length bytes ≡ got + left → ((left ≡ 0 → ⊥) → roomBytes ≤ got) → SameInput (take r bytes) bytes) ⌝ }

@@ -9,7 +9,8 @@ fn skip(fd: i32) -> usize
     io::read_full(fd, &mut buffer)
 }
 
-// How many bytes are left to the end of input. Each turn reads one at least, and the count ends at 2^62, which no input reaches.
+// How many bytes are left to the end of input. Each turn reads one at least, and the count ends at 2^62, which no
+// input reaches.
 pub fn left(fd: i32) -> usize
     ensures { λ r. ⌜ r ≤ 2 ^ 62 + 65536 ⌝ }
 {

@@ -1,5 +1,5 @@
-// Lines that evaluate a store, and the lists that they lend: every word of these is the same before a call, so that all that the call wrote
-// is printed, and an entry behind the last that it lists as well, should it write there.
+// Lines that evaluate a store, and the lists that they lend: every word of these is the same before a call, so that
+// all that the call wrote is printed, and an entry behind the last that it lists as well, should it write there.
 use crate::lending::LENT;
 use crate::lending::MOST_ELECTED;
 use crate::lending::MOST_MOVED;
@@ -68,42 +68,66 @@ fn moved_entries(list: &[MovedWords]) {
     }
 }
 
+// Each call by itself, and below it what it answered, printed where its contract is not in sight: the proofs are
+// quicker so.
+
+fn segment_of(
+    s: &mut [u64],
+    n: &[u64],
+    elected: &mut [ElectedWords],
+    moved: &mut [MovedWords],
+    answer: &mut [u64; 2],
+) -> u64 {
+    yubtomiq_segment(s, &four(n), &four(rest(n, 4)), elected, moved, answer)
+}
+
 fn segment(s: &mut [u64], n: &[u64], elected: &mut [ElectedWords], moved: &mut [MovedWords]) {
     let mut answer = [LENT; 2];
-    let r = yubtomiq_segment(s, &four(n), &four(rest(n, 4)), elected, moved, &mut answer);
+    let r = segment_of(s, n, elected, moved, &mut answer);
     printing::two(r, &answer);
+}
+
+fn walk_of(s: &mut [u64], n: &[u64], elected: &mut [ElectedWords], answer: &mut [u64; 2]) -> u64 {
+    yubtomiq_walk(s, &four(n), &two(rest(n, 4)), rest(n, 6), elected, answer)
 }
 
 fn walk(s: &mut [u64], n: &[u64], elected: &mut [ElectedWords]) {
     let mut answer = [LENT; 2];
-    let r = yubtomiq_walk(s, &four(n), &two(rest(n, 4)), rest(n, 6), elected, &mut answer);
+    let r = walk_of(s, n, elected, &mut answer);
     printing::two(r, &answer);
+}
+
+fn pass_of(s: &mut [u64], n: &[u64], elected: &mut [ElectedWords], answer: &mut [u64; 3]) -> u64 {
+    yubtomiq_evaluate_pending_stops(s, &four(n), rest(n, 8), &four(rest(n, 4)), elected, answer)
 }
 
 fn pass(s: &mut [u64], n: &[u64], elected: &mut [ElectedWords]) {
     let mut answer = [LENT; 3];
-    let r = yubtomiq_evaluate_pending_stops(
-        s,
-        &four(n),
-        rest(n, 8),
-        &four(rest(n, 4)),
-        elected,
-        &mut answer,
-    );
+    let r = pass_of(s, n, elected, &mut answer);
     printing::three(r, &answer);
 }
 
-fn triggers(s: &mut [u64], path: &mut [u64; 4], n: &[u64], elected: &mut [ElectedWords]) {
-    let mut answer = [LENT; 3];
-    let r = yubtomiq_run_stop_triggers(
+fn triggers_of(
+    s: &mut [u64],
+    path: &mut [u64; 4],
+    n: &[u64],
+    elected: &mut [ElectedWords],
+    answer: &mut [u64; 3],
+) -> u64 {
+    yubtomiq_run_stop_triggers(
         s,
         path,
         &four(n),
         rest(n, 6),
         &two(rest(n, 4)),
         elected,
-        &mut answer,
-    );
+        answer,
+    )
+}
+
+fn triggers(s: &mut [u64], path: &mut [u64; 4], n: &[u64], elected: &mut [ElectedWords]) {
+    let mut answer = [LENT; 3];
+    let r = triggers_of(s, path, n, elected, &mut answer);
     printing::three(r, &answer);
     printing::path(path);
 }

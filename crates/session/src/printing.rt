@@ -28,7 +28,8 @@ fn answer(returned: u64, answered: &[u64]) {
     words(answered);
 }
 
-// The same for answers of so many words: the type has their number, which a slice of what a call wrote would have to show.
+// The same for answers of so many words: the type has their number, which a slice of what a call wrote would have
+// to show.
 
 pub fn one(returned: u64, answered: &[u64; 1]) {
     answer(returned, answered);

@@ -15,12 +15,7 @@ struct Done {
 }
 
 // Runs the lines that end in a text, and answers where the next begins.
-fn lines(
-    text: &[u8],
-    words: &mut [u64],
-    path: &mut [u64; 4],
-    lent: Desk,
-) -> Done
+fn lines(text: &[u8], words: &mut [u64], path: &mut [u64; 4], lent: Desk) -> Done
     ensures { λ r. ⌜ r .at ≤ length (now (text .entry)) ⌝ }
 {
     let mut desk = lent;
@@ -33,10 +28,7 @@ fn lines(
         desk = running::line(&text[at..end], words, path, desk);
         at = end + 1;
     }
-    Done {
-        at: at,
-        desk: desk,
-    }
+    Done { at: at, desk: desk }
 }
 
 // Moves the bytes between two places to the beginning. Answers how many.
@@ -68,13 +60,7 @@ struct Turn {
 }
 
 // Reads on behind the bytes kept of a line, and runs the lines that end.
-fn read_on(
-    text: &mut [u8],
-    kept: usize,
-    words: &mut [u64],
-    path: &mut [u64; 4],
-    desk: Desk,
-) -> Turn
+fn read_on(text: &mut [u8], kept: usize, words: &mut [u64], path: &mut [u64; 4], desk: Desk) -> Turn
     requires { ⌜ kept ≤ length (now text) ⌝ }
     ensures { λ r. ⌜ (r .got ≤ length (now (text .entry)) - kept) × (r .kept ≤ length (now (text .entry))) ⌝ }
     ensures { λ _. ⌜ length (now (text .exit)) ≡ length (now (text .entry)) ⌝ }
@@ -94,11 +80,7 @@ fn read_on(
 const MOST_BLOCKS: u64 = 0x1_0000_0000;
 
 // Runs every line of standard input, and answers how many bytes of a last line did not end.
-fn blocks(
-    text: &mut [u8],
-    words: &mut [u64],
-    path: &mut [u64; 4],
-) -> usize {
+fn blocks(text: &mut [u8], words: &mut [u64], path: &mut [u64; 4]) -> usize {
     let mut desk = lending::empty();
     let mut kept: usize = 0;
     let mut left = MOST_BLOCKS;

@@ -68,7 +68,13 @@ fn read(text: &[u8], words: &mut [u64], path: &mut [u64; 4], desk: Desk) -> Desk
     let end = numbers::place_of(text, 0, b' ');
     let count = numbers::read(text, end, n);
     let all = &n[..];
-    call(names::number(&text[0..end]), words, path, &all[0..count], desk)
+    call(
+        names::number(&text[0..end]),
+        words,
+        path,
+        &all[0..count],
+        desk,
+    )
 }
 
 // Whether a line is only printed.

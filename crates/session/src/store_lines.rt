@@ -41,36 +41,50 @@ pub fn read(call: u64, s: &[u64], n: &[u64]) {
 }
 
 // Admits a stop: identity, terms, quantity.
+fn admit_stop(
+    s: &mut [u64],
+    path: &mut [u64; 4],
+    kill: u64,
+    trade: &[u64; 2],
+    stop: &[u64],
+    answer: &mut [u64; 1],
+) -> u64 {
+    let id = three(stop);
+    let terms = four(rest(stop, 3));
+    yubtomiq_admit_trailing_stop(s, path, kill, trade, &id, &terms, word(stop, 7), answer)
+}
+
 fn admit(s: &mut [u64], path: &mut [u64; 4], n: &[u64]) {
     let mut answer = [LENT; 1];
-    let trade = two(rest(n, 1));
-    let id = three(rest(n, 3));
-    let terms = four(rest(n, 6));
-    let r = yubtomiq_admit_trailing_stop(
+    let r = admit_stop(
         s,
         path,
         word(n, 0),
-        &trade,
-        &id,
-        &terms,
-        word(n, 10),
+        &two(rest(n, 1)),
+        rest(n, 3),
         &mut answer,
     );
     printing::one(r, &answer);
     printing::path(path);
 }
 
+fn update_of(s: &mut [u64], n: &[u64], answer: &mut [u64; 9]) -> u64 {
+    yubtomiq_update_pending_stop(s, &three(n), &four(rest(n, 3)), &two(rest(n, 7)), answer)
+}
+
 fn update(s: &mut [u64], n: &[u64]) {
     let mut answer = [LENT; 9];
-    let change = four(rest(n, 3));
-    let trade = two(rest(n, 7));
-    let r = yubtomiq_update_pending_stop(s, &three(n), &change, &trade, &mut answer);
+    let r = update_of(s, n, &mut answer);
     printing::nine(r, &answer);
+}
+
+fn cancel_of(s: &mut [u64], n: &[u64], answer: &mut [u64; 9]) -> u64 {
+    yubtomiq_cancel_pending_stop(s, &three(n), answer)
 }
 
 fn cancel(s: &mut [u64], n: &[u64]) {
     let mut answer = [LENT; 9];
-    let r = yubtomiq_cancel_pending_stop(s, &three(n), &mut answer);
+    let r = cancel_of(s, n, &mut answer);
     printing::nine(r, &answer);
 }
 
@@ -80,9 +94,12 @@ fn clear(s: &mut [u64], path: &mut [u64; 4]) {
     printing::path(path);
 }
 
+fn layout_of(s: &mut [u64], n: u64, tick: u64) -> u64 {
+    yubtomiq_layout_store(s, n, tick)
+}
+
 fn layout(s: &mut [u64], n: &[u64]) {
-    let r = yubtomiq_layout_store(s, word(n, 0), word(n, 1));
-    printing::number(r);
+    printing::number(layout_of(s, word(n, 0), word(n, 1)));
 }
 
 // Lines that may alter the store.
@@ -96,14 +113,12 @@ pub fn alter(call: u64, s: &mut [u64], path: &mut [u64; 4], n: &[u64]) {
     }
 }
 
-// Admits a stop under a sequence: identity, terms, quantity, sequence.
+// Admits a stop under a sequence, which follows its quantity.
 fn admit_under(s: &mut [u64], stop: &[u64]) -> u64 {
     let mut answer = [LENT; 1];
     let mut path = [0u64; 4];
-    let id = three(stop);
-    let terms = four(rest(stop, 3));
     set(s, 2, word(stop, 8));
-    yubtomiq_admit_trailing_stop(s, &mut path, 0, &[0, 0], &id, &terms, word(stop, 7), &mut answer)
+    admit_stop(s, &mut path, 0, &[0, 0], stop, &mut answer)
 }
 
 fn first_refusal(a: u64, b: u64) -> u64 {
@@ -116,7 +131,7 @@ pub fn book(s: &mut [u64], n: &[u64]) -> u64 {
     if count > MOST_RECORDS as u64 {
         return 2;
     }
-    let mut r = yubtomiq_layout_store(s, count + 1, word(n, 0));
+    let mut r = layout_of(s, count + 1, word(n, 0));
     let mut k: usize = 0;
     while k < count as usize {
         r = first_refusal(r, admit_under(s, rest(n, 3 + DATA_WORDS * k)));

@@ -7,7 +7,8 @@ use Rattle.session.proofs.reading.blocks.Statement.{statement}
 use Rattle.session.proofs.reading.blocks.Tie as tie
 
 abbrev Inv-loop : tie.InvT-loop
-Inv-loop text₀ words₀ path₀ desk₀ kept₀ left₀ text words path desk kept left = (kept ≤ length text₀) × (length text ≡ length text₀) × (length words ≡ length words₀)
+Inv-loop text₀ words₀ path₀ desk₀ kept₀ left₀ text words path desk kept left =
+    (kept ≤ length text₀) × (length text ≡ length text₀) × (length words ≡ length words₀)
 
 abbrev μ-loop : tie.MeasureT-loop
 μ-loop text₀ words₀ path₀ desk₀ kept₀ left₀ text words path desk kept left = left
