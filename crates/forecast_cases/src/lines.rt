@@ -1,12 +1,13 @@
-// Cases as lines of text: a heading, and below it an input as document 01 writes one, words in decimal, with a plus for each byte
-// behind them that is no word.
-use forecasting::print_forecast;
+// Cases as lines of text. An input is written as document 01 writes one, words in decimal, with a plus for each
+// byte behind them that is no word; `length N` makes the input before it N bytes long, with zeros behind it where
+// it was shorter; a heading starts with #.
+use crate::files;
 ghost use Prim.Native.Nat.{_+_, _≤_};
 ghost use mathlib.Core.Path.{_≡_};
 ghost use lib.ListN.{length};
 
 // Writes a word as eight bytes, the lowest first.
-pub fn put_word(bytes: &mut [u8], p: usize, word: u64)
+fn put_word(bytes: &mut [u8], p: usize, word: u64)
     requires { ⌜ p + 8 ≤ length (now bytes) ⌝ }
 {
     let mut left = word;
@@ -96,25 +97,48 @@ fn encode(bytes: &mut [u8], text: &[u8]) -> usize
     add_word(bytes, n, open, value)
 }
 
-// Writes the forecast of the bytes that a text stands for.
-fn forecast_text(text: &[u8]) {
-    let mut bytes = io::buffer();
-    let n = encode(&mut bytes, text);
-    print_forecast(&bytes[..n]);
+// The forecast of the bytes that a text stands for.
+fn input(text: &[u8]) {
+    let mut room = io::large_buffer();
+    let bytes: &mut [u8] = &mut room;
+    let n = encode(bytes, text);
+    let all = &bytes[..];
+    files::write(&all[0..n]);
+    files::forecast();
 }
 
-// A line: a heading, which starts with #, is written as it is; any other is an input.
+// The number that a text ends with.
+fn last_number(text: &[u8]) -> u64 {
+    let mut value: u64 = 0;
+    let mut i: usize = 0;
+    while i < text.len() {
+        value = append(value, text[i]);
+        i += 1;
+    }
+    value
+}
+
+// A line by its first byte.
+fn starting(c: u8, text: &[u8]) {
+    match c {
+        b'#' => {
+            io::write_all(1, text);
+            io::write_all(1, b"\n");
+        }
+        b'l' => {
+            files::set_length(last_number(text));
+            files::forecast();
+        }
+        _ => input(text),
+    }
+}
+
 fn line(text: &[u8]) {
     if text.len() == 0 {
-        forecast_text(text);
-        return;
+        input(text);
+    } else {
+        starting(text[0], text);
     }
-    if text[0] != b'#' {
-        forecast_text(text);
-        return;
-    }
-    io::write_all(1, text);
-    io::write_all(1, b"\n");
 }
 
 // Where the line from a place on ends.

@@ -1,5 +1,5 @@
--- The beginning of a long input names the same store and prices: behind the longest store stand more words than a count and the
--- most prices.
+-- The beginning of a long input names the same store and prices: behind the longest store stand more words than a count
+-- and the most prices.
 use Prim.Native.Nat.{ℕ, zero, suc, _+_, _-_, _*_, _/_, _%_, _≤_, _<_, min}
 use mathlib.Core.Bool.{false}
 use mathlib.Core.List.{List, [], _∷_}
@@ -11,16 +11,12 @@ use lib.Dec.{eqb, leb}
 use lib.ListN.{length, take, drop, length-drop}
 use lib.Seq.{getD-take, take-take, take-all, length-take-le}
 use Rattle.book.specs.Sizes.{mostRecords, storeLength, mostPrices}
-use Rattle.forecasting.specs.Input.{fourAt, wordAt, wordsAt, wordCount, wordsOf, namedLength, storeIn, counted, pricesIn, SameInput}
+use Rattle.forecasting.specs.Input.{fourAt, wordAt, wordsAt, wordCount, wordsOf, namedLength, storeIn, counted, pricesIn, SameInput, longest}
 use Rattle.forecasting.proofs.Words.{wordsAt-take, wordsOf-length, count-whole, count-none}
 use Rattle.forecasting.proofs.Split.{store-most}
 
 ------------------------------------------------------------------------
 -- Of words
-
--- the longest input that is accepted, in words
-abbrev pub longest : ℕ
-longest = storeLength mostRecords + 1 + mostPrices
 
 counted-long : (w : List ℕ) → mostPrices + 1 < length w → counted w ≡ []
 unfolding counted
@@ -36,7 +32,8 @@ counted-long (count ∷ prices) h =
 prices-long : (w : List ℕ) → longest < length w → pricesIn w ≡ []
 unfolding pricesIn
 prices-long w h =
-    counted-long (drop (length (storeIn w)) w) (rw (length-drop (length (storeIn w)) w) (omega (arith, h, store-most w)))
+    counted-long (drop (length (storeIn w)) w)
+    (rw (length-drop (length (storeIn w)) w) (omega (arith, h, store-most w)))
 
 module _ (w : List ℕ) (m : ℕ) (long : longest < m) (fits : m ≤ length w) where
   pub store-beginning : storeIn (take m w) ≡ storeIn w
@@ -47,7 +44,8 @@ module _ (w : List ℕ) (m : ℕ) (long : longest < m) (fits : m ≤ length w) w
 
   pub prices-beginning : pricesIn (take m w) ≡ pricesIn w
   unfolding pricesIn
-  prices-beginning = prices-long (take m w) (rw (length-take-le m w fits) long) ∙ sym (prices-long w (omega (arith, long, fits)))
+  prices-beginning = prices-long (take m w) (rw (length-take-le m w fits) long)
+      ∙ sym (prices-long w (omega (arith, long, fits)))
 
 ------------------------------------------------------------------------
 -- Of bytes
@@ -80,7 +78,8 @@ module _ (bytes : List ℕ) (k : ℕ) where
     whole : length bytes % 8 ≡ 0 → wordsOf (take k bytes) ≡ take (k / 8) (wordsOf bytes)
     unfolding wordsOf
     whole e =
-        let count : wordCount (take k bytes) ≡ k / 8 = count-whole (take k bytes) (rw size (alike ∙ e)) ∙ ap (λ (n : ℕ). n / 8) size in
+        let count : wordCount (take k bytes) ≡ k / 8 =
+        count-whole (take k bytes) (rw size (alike ∙ e)) ∙ ap (λ (n : ℕ). n / 8) size in
         let all : wordCount bytes ≡ length bytes / 8 = count-whole bytes e in
         ap (wordsAt (take k bytes) 0) count
         ∙ words-take 0 (k / 8) (omega arith)
@@ -92,14 +91,16 @@ module _ (bytes : List ℕ) (k : ℕ) where
         let none : wordCount (take k bytes) ≡ 0 = count-none (take k bytes) (λ f. e (sym alike ∙ (rw size at f))) in
         rw (none, count-none bytes e)
 
-    -- an input's beginning, longer than the longest that is accepted and as far from whole words as the input, names what the input names
+    -- an input's beginning, longer than the longest that is accepted and as far from whole words as the input, names
+    -- what the input names
     pub same-beginning : 8 * longest + 8 ≤ k → SameInput (take k bytes) bytes
     same-beginning long =
         cases (eqb (length bytes % 8) 0)
         (λ e.
         let f : length bytes % 8 ≡ 0 = eqb-true _ _ e in
         let more : longest < k / 8 = omega (arith, long) in
-        let there : k / 8 ≤ length (wordsOf bytes) = rw (wordsOf-length bytes, count-whole bytes f) (omega (arith, fits)) in (
+        let there : k / 8 ≤ length (wordsOf bytes) =
+        rw (wordsOf-length bytes, count-whole bytes f) (omega (arith, fits)) in (
           ap storeIn (whole f) ∙ store-beginning (wordsOf bytes) (k / 8) more there,
           ap pricesIn (whole f) ∙ prices-beginning (wordsOf bytes) (k / 8) more there,
         ))
@@ -107,4 +108,5 @@ module _ (bytes : List ℕ) (k : ℕ) where
 
 -- and so does all of it
 pub same-whole : (bytes : List ℕ) (k : ℕ) → length bytes ≤ k → SameInput (take k bytes) bytes
-same-whole bytes k h = let e = take-all k bytes h in (ap (λ (b : List ℕ). storeIn (wordsOf b)) e, ap (λ (b : List ℕ). pricesIn (wordsOf b)) e)
+same-whole bytes k h = let e =
+    take-all k bytes h in (ap (λ (b : List ℕ). storeIn (wordsOf b)) e, ap (λ (b : List ℕ). pricesIn (wordsOf b)) e)

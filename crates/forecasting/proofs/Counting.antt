@@ -16,7 +16,8 @@ use Rattle.forecasting.proofs.Split.{store-length, store-few, store-wor
 pub word-inside : (bytes : List ℕ) (count i : ℕ) → count ≡ wordCount bytes → i < count → 8 * i + 8 ≤ length bytes
 word-inside bytes count i e h = omega (arith, e, h, count-inside bytes)
 
-module _ (bytes : List ℕ) (count n r : ℕ) (e : count ≡ wordCount bytes) (some : count ≡ 0 → ⊥) (first : n ≡ wordAt bytes 0) where
+module _ (bytes : List ℕ) (count n r : ℕ) (e : count ≡ wordCount bytes) (some : count ≡ 0 → ⊥)
+    (first : n ≡ wordAt bytes 0) where
   store-of : r ≡ min (storeLength (min n mostRecords)) count → r ≡ length (storeIn (wordsOf bytes))
   store-of f = f ∙ rw (first, e) (sym (store-length bytes (omega (arith, e, some))))
 
@@ -30,12 +31,14 @@ module _ (bytes : List ℕ) (count n r : ℕ) (e : count ≡ wordCount bytes) (s
       let m : min n mostRecords ≡ n = omega (arith, h) in
       store-of (f ∙ ap (λ (k : ℕ). min (storeLength k) count) (sym m))
 
-module _ (bytes : List ℕ) (count at c : ℕ) (e : count ≡ wordCount bytes) (f : at ≡ length (storeIn (wordsOf bytes))) where
+module _ (bytes : List ℕ) (count at c : ℕ) (e : count ≡ wordCount bytes)
+    (f : at ≡ length (storeIn (wordsOf bytes))) where
   pub no-count : count ≤ at → 0 ≡ length (pricesIn (wordsOf bytes))
   no-count h = sym (ap length (prices-none bytes (omega (arith, e, f, h))))
 
   module _ (h : at < count) (g : c ≡ wordAt bytes at) where
-    behind : pricesIn (wordsOf bytes) ≡ cond (leb c mostPrices && eqb (count - at - 1) c) (wordsAt bytes (at + 1) (count - at - 1)) []
+    behind : pricesIn (wordsOf bytes) ≡ cond (leb c mostPrices && eqb (count - at - 1) c)
+        (wordsAt bytes (at + 1) (count - at - 1)) []
     behind =
         let w : wordCount bytes ≡ at + suc (count - at - 1) = omega (arith, e, h) in
         rw g (prices-behind bytes at (count - at - 1) f w)
@@ -48,7 +51,12 @@ module _ (bytes : List ℕ) (count at c : ℕ) (e : count ≡ wordCount bytes) (
 
     pub count-right : c ≤ mostPrices → count - at - 1 ≡ c → c ≡ length (pricesIn (wordsOf bytes))
     count-right few right =
-        rw behind (rw (le-leb c mostPrices few, eq-eqb (count - at - 1) c right, wordsAt-length bytes (at + 1) (count - at - 1)) (sym right))
+        rw behind (rw (
+          le-leb c mostPrices few,
+          eq-eqb (count - at - 1) c right,
+          wordsAt-length bytes (at + 1)
+              (count - at - 1),
+        ) (sym right))
 
 ------------------------------------------------------------------------
 -- The words are there, and what is read is the store and the prices
@@ -60,7 +68,8 @@ pub prices-inside : (bytes : List ℕ) (count k : ℕ) → count ≡ wordCount b
     → 8 * (count - k + k) ≤ length bytes
 prices-inside bytes count k e f = omega (arith, e, f, prices-few bytes, count-inside bytes)
 
-pub store-read : (bytes w : List ℕ) (k : ℕ) → k ≡ length (storeIn (wordsOf bytes)) → w ≡ wordsAt bytes 0 k → w ≡ storeIn (wordsOf bytes)
+pub store-read : (bytes w : List ℕ) (k : ℕ) → k ≡ length (storeIn (wordsOf bytes)) → w ≡ wordsAt bytes 0 k
+    → w ≡ storeIn (wordsOf bytes)
 store-read bytes w k e f = f ∙ ap (wordsAt bytes 0) e ∙ store-words bytes
 
 pub prices-read : (bytes w : List ℕ) (count k : ℕ) → count ≡ wordCount bytes → k ≡ length (pricesIn (wordsOf bytes))

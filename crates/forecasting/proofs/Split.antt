@@ -26,7 +26,8 @@ pub store-length : (bytes : List ℕ) → 0 < wordCount bytes
     → length (storeIn (wordsOf bytes)) ≡ min (storeLength (min (wordAt bytes 0) mostRecords)) (wordCount bytes)
 unfolding storeIn wordsOf
 store-length bytes h =
-    length-take (namedLength (wordsOf bytes)) (wordsOf bytes) ∙ rw (wordsOf-length bytes, first-word bytes (wordCount bytes) h)
+    length-take (namedLength (wordsOf bytes)) (wordsOf bytes)
+    ∙ rw (wordsOf-length bytes, first-word bytes (wordCount bytes) h)
 
 pub store-few : (bytes : List ℕ) → length (storeIn (wordsOf bytes)) ≤ wordCount bytes
 unfolding storeIn
@@ -48,7 +49,8 @@ take-own {A} (suc m) (x ∷ l) = ap (λ (r : List A). x ∷ r) (take-own m l)
 -- it is the first of the words
 pub store-words : (bytes : List ℕ) → wordsAt bytes 0 (length (storeIn (wordsOf bytes))) ≡ storeIn (wordsOf bytes)
 unfolding storeIn wordsOf
-store-words bytes = sym (wordsAt-take bytes 0 _ (wordCount bytes) (store-few bytes)) ∙ take-own (namedLength (wordsOf bytes)) (wordsOf bytes)
+store-words bytes = sym (wordsAt-take bytes 0 _ (wordCount bytes) (store-few bytes))
+    ∙ take-own (namedLength (wordsOf bytes)) (wordsOf bytes)
 
 ------------------------------------------------------------------------
 -- The prices
@@ -58,7 +60,9 @@ unfolding counted
 counted-most [] = omega arith
 counted-most (count ∷ prices) =
     cases (leb count mostPrices)
-    (λ e. cases (eqb (length prices) count) (λ f. rw (e, f) (omega (arith, leb-true count mostPrices e, eqb-true (length prices) count f))) (λ f. rw (e, f) (omega arith)))
+    (λ e. cases (eqb (length prices) count)
+    (λ f. rw (e, f) (omega (arith, leb-true count mostPrices e, eqb-true (length prices) count f)))
+    (λ f. rw (e, f) (omega arith)))
     (λ e. rw e (omega arith))
 
 counted-few : (w : List ℕ) → length (counted w) ≤ length w
@@ -70,7 +74,8 @@ counted-few (count ∷ prices) =
 -- no count
 pub prices-none : (bytes : List ℕ) → wordCount bytes ≤ length (storeIn (wordsOf bytes)) → pricesIn (wordsOf bytes) ≡ []
 unfolding pricesIn counted
-prices-none bytes h = rw (drop-of-length-le (wordsOf bytes) {i = length (storeIn (wordsOf bytes))} (rw (wordsOf-length bytes) h))
+prices-none bytes h =
+    rw (drop-of-length-le (wordsOf bytes) {i = length (storeIn (wordsOf bytes))} (rw (wordsOf-length bytes) h))
 
 -- the words behind the store
 behind-store : (bytes : List ℕ) (k rest : ℕ) → wordCount bytes ≡ k + suc rest
@@ -84,14 +89,17 @@ behind-store bytes k rest f =
     ∙ rw (left, here) (ap (λ (p : ℕ). wordAt bytes k ∷ wordsAt bytes p rest) next)
 
 -- the prices, where the count is right
-pub prices-behind : (bytes : List ℕ) (k rest : ℕ) → k ≡ length (storeIn (wordsOf bytes)) → wordCount bytes ≡ k + suc rest
-    → pricesIn (wordsOf bytes) ≡ cond (leb (wordAt bytes k) mostPrices && eqb rest (wordAt bytes k)) (wordsAt bytes (k + 1) rest) []
+pub prices-behind : (bytes : List ℕ) (k rest : ℕ) → k ≡ length (storeIn (wordsOf bytes))
+    → wordCount bytes ≡ k + suc rest
+    → pricesIn (wordsOf bytes) ≡ cond (leb (wordAt bytes k) mostPrices && eqb rest (wordAt bytes k))
+    (wordsAt bytes (k + 1) rest) []
 unfolding pricesIn counted
 prices-behind bytes k rest e f =
     ap (λ (j : ℕ). counted (drop j (wordsOf bytes))) (sym e)
     ∙ rw (behind-store bytes k rest f, wordsAt-length bytes (k + 1) rest)
 
-last-words : (bytes p : List ℕ) (i k n : ℕ) → p ≡ wordsAt bytes i k → n ≡ i + k → wordsAt bytes (n - length p) (length p) ≡ p
+last-words : (bytes p : List ℕ) (i k n : ℕ) → p ≡ wordsAt bytes i k → n ≡ i + k
+    → wordsAt bytes (n - length p) (length p) ≡ p
 last-words bytes p i k n e f =
     let size : length p ≡ k = ap length e ∙ wordsAt-length bytes i k in
     let at : n - k ≡ i = omega arith in
@@ -99,7 +107,8 @@ last-words bytes p i k n e f =
 
 -- they are the last of the words
 pub price-words : (bytes : List ℕ)
-    → wordsAt bytes (wordCount bytes - length (pricesIn (wordsOf bytes))) (length (pricesIn (wordsOf bytes))) ≡ pricesIn (wordsOf bytes)
+    → wordsAt bytes (wordCount bytes - length (pricesIn (wordsOf bytes)))
+    (length (pricesIn (wordsOf bytes))) ≡ pricesIn (wordsOf bytes)
 unfolding wordsAt
 price-words bytes =
     cases (leb (wordCount bytes) k)
@@ -117,7 +126,8 @@ price-words bytes =
     k = length (storeIn (wordsOf bytes))
 
     none : pricesIn (wordsOf bytes) ≡ []
-        → wordsAt bytes (wordCount bytes - length (pricesIn (wordsOf bytes))) (length (pricesIn (wordsOf bytes))) ≡ pricesIn (wordsOf bytes)
+        → wordsAt bytes (wordCount bytes - length (pricesIn (wordsOf bytes)))
+        (length (pricesIn (wordsOf bytes))) ≡ pricesIn (wordsOf bytes)
     none e = last-words bytes (pricesIn (wordsOf bytes)) (wordCount bytes) 0 (wordCount bytes) e (omega arith)
 
 pub prices-most : (bytes : List ℕ) → length (pricesIn (wordsOf bytes)) ≤ mostPrices
@@ -129,5 +139,6 @@ pub prices-few : (bytes : List ℕ) → length (pricesIn (wordsOf bytes)) ≤ wo
 unfolding pricesIn
 prices-few bytes =
     let k = length (storeIn (wordsOf bytes)) in
-    let h : length (drop k (wordsOf bytes)) ≤ wordCount bytes = rw (length-drop k (wordsOf bytes), wordsOf-length bytes) (omega arith) in
+    let h : length (drop k (wordsOf bytes)) ≤ wordCount bytes =
+    rw (length-drop k (wordsOf bytes), wordsOf-length bytes) (omega arith) in
     omega (arith, h, counted-few (drop k (wordsOf bytes)))

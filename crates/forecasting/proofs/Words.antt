@@ -25,7 +25,8 @@ pub wordsAt-take : (bytes : List ℕ) (i j k : ℕ) → j ≤ k → take j (word
 unfolding wordsAt
 wordsAt-take bytes i zero k h = refl
 wordsAt-take bytes i (suc j) zero h = absurd (not-suc-le-zero h)
-wordsAt-take bytes i (suc j) (suc k) h = ap (λ (r : List ℕ). wordAt bytes i ∷ r) (wordsAt-take bytes (suc i) j k (le-of-suc-le-suc h))
+wordsAt-take bytes i (suc j) (suc k) h =
+    ap (λ (r : List ℕ). wordAt bytes i ∷ r) (wordsAt-take bytes (suc i) j k (le-of-suc-le-suc h))
 
 pub wordsAt-drop : (bytes : List ℕ) (i j k : ℕ) → j ≤ k → drop j (wordsAt bytes i k) ≡ wordsAt bytes (i + j) (k - j)
 unfolding wordsAt
@@ -46,7 +47,8 @@ wordsAt-last bytes i (suc k) =
     ∙ ap (λ (p : ℕ). wordAt bytes i ∷ (wordsAt bytes (suc i) k ++ (wordAt bytes p ∷ []))) here
 
 -- one word more is read
-pub read-turn : (bytes : List ℕ) (i : ℕ) (w : List ℕ) (k x : ℕ) → k < length w → take k w ≡ wordsAt bytes i k → x ≡ wordAt bytes (i + k)
+pub read-turn : (bytes : List ℕ) (i : ℕ) (w : List ℕ) (k x : ℕ) → k < length w → take k w ≡ wordsAt bytes i k
+    → x ≡ wordAt bytes (i + k)
     → take (k + 1) (set w k x) ≡ wordsAt bytes i (k + 1)
 read-turn bytes i w k x h e n =
     rw add-one

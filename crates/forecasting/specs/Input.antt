@@ -1,4 +1,5 @@
--- What the program `forecast` reads: a store as little-endian words, a price count, the prices. Document 01, The program `forecast`.
+-- What the program `forecast` reads: a store as little-endian words, a price count, the prices. Document 01, The
+-- program `forecast`.
 use Prim.Native.Nat.{ℕ, zero, suc, _+_, _*_, _/_, _%_, _^_, min}
 use mathlib.Core.Path.{_≡_}
 use mathlib.Core.Bool.{false, cond, _&&_}
@@ -14,7 +15,8 @@ use Rattle.stop_protection.specs.declared.Protection.the-variants.{None}
 
 -- four bytes from place p on as a number, the lowest first
 unfoldable pub fourAt : List ℕ → ℕ → ℕ
-fourAt bytes p = getD bytes p 0 + 256 * (getD bytes (p + 1) 0 + 256 * (getD bytes (p + 2) 0 + 256 * getD bytes (p + 3) 0))
+fourAt bytes p = getD bytes p 0 + 256 *
+    (getD bytes (p + 1) 0 + 256 * (getD bytes (p + 2) 0 + 256 * getD bytes (p + 3) 0))
 
 -- a word is eight bytes, the lowest first; word i from 0
 unfoldable pub wordAt : List ℕ → ℕ → ℕ
@@ -49,6 +51,13 @@ counted (count ∷ prices) = cond (leb count mostPrices && eqb (length prices) c
 unfoldable pub pricesIn : List ℕ → List ℕ
 pricesIn w = counted (drop (length (storeIn w)) w)
 
+-- the longest input that is accepted, in words, and two words more, in bytes
+abbrev pub longest : ℕ
+longest = storeLength mostRecords + 1 + mostPrices
+
+abbrev pub roomBytes : ℕ
+roomBytes = 8 * longest + 16
+
 -- two inputs that name the same store and the same prices
 abbrev pub SameInput : List ℕ → List ℕ → Type 0
 SameInput a b = (storeIn (wordsOf a) ≡ storeIn (wordsOf b)) × (pricesIn (wordsOf a) ≡ pricesIn (wordsOf b))
@@ -59,4 +68,5 @@ forecastSettings = record { kill = false; protection = None; namespace = record 
 
 -- the walk that an input asks for, prev absent, with a list as long as a store has records
 unfoldable pub forecastOf : List ℕ → WalkOutcome
-forecastOf bytes = walkCall forecastSettings last.None (map toPrice (pricesIn (wordsOf bytes))) (storeIn (wordsOf bytes)) mostRecords
+forecastOf bytes = walkCall forecastSettings last.None (map toPrice (pricesIn (wordsOf bytes)))
+    (storeIn (wordsOf bytes)) mostRecords

@@ -1,8 +1,8 @@
 // A forecast on standard output: document 01's lines.
-use book::Elected;
+use book::ElectedWords;
 use error::Refusal;
-use panel::WalkListing;
-use pricelevel::Side;
+ghost use Prim.Native.Nat.{_≤_};
+ghost use lib.ListN.{length};
 
 fn text(t: &[u8]) {
     io::write_all(1, t);
@@ -14,42 +14,37 @@ fn field(n: u64) {
     io::print_decimal(1, n);
 }
 
-fn side(side: Side) {
-    match side {
-        Side::Buy => text(b" buy"),
-        Side::Sell => text(b" sell"),
+fn side(of: u64) {
+    match of {
+        0 => text(b" buy"),
+        _ => text(b" sell"),
     }
 }
 
 // An elected entry: kind, high, low, side, stop, quantity, sequence, trigger.
-fn entry(e: Elected) {
-    let id = e.id;
-    let kind = id.kind;
-    let of = e.side;
-    io::print_decimal(1, kind.number() as u64);
-    field(id.high);
-    field(id.low);
-    side(of);
-    field(e.stop.0);
-    field(e.quantity.0);
-    field(e.seq.0);
-    field(e.trigger.0);
+fn entry(e: ElectedWords) {
+    io::print_decimal(1, e[0]);
+    field(e[1]);
+    field(e[2]);
+    side(e[3]);
+    field(e[4]);
+    field(e[5]);
+    field(e[6]);
+    field(e[7]);
     text(b"\n");
 }
 
 // The number elected, and a line for each entry.
-pub fn entries(walked: WalkListing, count: u64) {
-    let elected = walked.elected;
+pub fn entries(elected: &[ElectedWords], count: u64) {
     text(b"elected");
     field(count);
     text(b"\n");
     let mut i: usize = 0;
-    while i < 700 {
+    while i < elected.len() {
         if i as u64 >= count {
             return;
         }
-        let e = elected[i];
-        entry(e);
+        entry(elected[i]);
         i += 1;
     }
 }

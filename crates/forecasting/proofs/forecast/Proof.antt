@@ -11,7 +11,12 @@ use Rattle.forecasting.proofs.forecast.Tie as tie
 array-borrow-prefix-store : tie.Need-array-borrow-prefix-store
 array-borrow-prefix-store c =
     let b = c .before .before .before in
-    omega (arith, c .before .store-length .ensures, store-most (wordsOf (b .before .before .args .bytes .now)), b .longest-store .ensures)
+    omega (
+      arith,
+      c .before .store-length .ensures,
+      store-most (wordsOf (b .before .before .args .bytes .now)),
+      b .longest-store .ensures,
+    )
 
 slice-aggregate-walk-input : tie.Need-slice-aggregate-walk-input
 slice-aggregate-walk-input c = sym (length-take-le _ _ (array-borrow-prefix-store (c .before)))
@@ -19,16 +24,25 @@ slice-aggregate-walk-input c = sym (length-take-le _ _ (array-borrow-prefix-stor
 array-borrow-prefix-prices : tie.Need-array-borrow-prefix-prices
 array-borrow-prefix-prices c =
     let b = c .before .before .before in
-    omega (arith, c .before .price-count .ensures, prices-most (b .before .before .before .args .bytes .now), b .most-prices .ensures)
+    omega (
+      arith,
+      c .before .price-count .ensures,
+      prices-most (b .before .before .before .args .bytes .now),
+      b .most-prices .ensures,
+    )
 
 slice-aggregate-walk-input-2 : tie.Need-slice-aggregate-walk-input-2
 slice-aggregate-walk-input-2 c = sym (length-take-le _ _ (array-borrow-prefix-prices (c .before)))
 
 walk-input-requires : tie.Need-walk-input-requires
 walk-input-requires c κs =
-    let b = c .before in (
+    let b = c .before .before in (
       length-take-le _ _ (array-borrow-prefix-store (b .before)) ∙ b .before .before .store-length .ensures,
-      length-take-le _ _ (array-borrow-prefix-prices b) ∙ b .before .price-count .ensures,
+      (
+        length-take-le _ _ (array-borrow-prefix-prices b)
+            ∙ b .before .price-count .ensures,
+        b .before .before .before .before .before .before .pre,
+      ),
     )
 
 pub forecast-spec : {M : Type 1} → statement M
@@ -44,4 +58,5 @@ forecast-spec =
     array-borrow-prefix-prices
     slice-aggregate-walk-input-2
     walk-input-requires
+    (λ c. search needs)
     (λ c. search needs))

@@ -13,7 +13,8 @@ word-at-requires c κs = word-inside _ _ _ (c .before .before .word-count .ensur
 returns-2 : tie.Need-returns-2
 returns-2 c =
     let b = c .before .before in
-    count-over _ _ _ _ (b .before .before .word-count .ensures) (b .before .store-length .ensures) (b .if1 .left) (c .before .word-at .ensures) (c .if2 .taken)
+    count-over _ _ _ _ (b .before .before .word-count .ensures) (b .before .store-length .ensures) (b .if1 .left)
+    (c .before .word-at .ensures) (c .if2 .taken)
 
 returns-3 : tie.Need-returns-3
 returns-3 c =

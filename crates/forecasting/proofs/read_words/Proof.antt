@@ -1,4 +1,5 @@
--- `forecasting::read_words` meets its contract. The invariant: the first k words are read. The measure is what is left of the slice.
+-- `forecasting::read_words` meets its contract. The invariant: the first k words are read. The measure is what is left
+-- of the slice.
 use Prim.Native.Nat.{_≤_, _-_}
 use mathlib.Core.Path.{_≡_, refl, sym, ap, _∙_}
 use native.Mathlib.Omega.{arith}
@@ -11,7 +12,8 @@ use Rattle.forecasting.proofs.read_words.Statement.{statement}
 use Rattle.forecasting.proofs.read_words.Tie as tie
 
 abbrev Inv-loop : tie.InvT-loop
-Inv-loop bytes i words₀ k₀ words k = (k ≤ length words₀) × (length words ≡ length words₀) × (take k words ≡ wordsAt bytes i k)
+Inv-loop bytes i words₀ k₀ words k =
+    (k ≤ length words₀) × (length words ≡ length words₀) × (take k words ≡ wordsAt bytes i k)
 
 abbrev μ-loop : tie.MeasureT-loop
 μ-loop bytes i words₀ k₀ words k = length words₀ - k
@@ -31,7 +33,8 @@ returns : tie.Need-returns Inv-loop μ-loop
 returns c =
     let e : c .before .loop .k ≡ length (c .before .loop .words) = omega arith in
     let f : c .before .loop .k ≡ length (c .before .before .before .before .args .words .now) = omega arith in
-    sym (take-all (c .before .loop .k) (c .before .loop .words) (omega arith)) ∙ c .before .loop .inv .2 ∙ ap (wordsAt _ _) f
+    sym (take-all (c .before .loop .k) (c .before .loop .words) (omega arith)) ∙ c .before .loop .inv .2
+    ∙ ap (wordsAt _ _) f
 
 pub read-words-spec : {M : Type 1} → statement M
 read-words-spec =

@@ -16,12 +16,14 @@ word-at-requires c κs = word-inside _ _ 0 (c .before .word-count .ensures) (ome
 returns-2 : tie.Need-returns-2
 returns-2 c =
     let b = c .before .before .before in
-    store-over _ _ _ _ (b .before .word-count .ensures) (b .if1 .left) (c .before .before .word-at .ensures) (c .before .if2 .taken) (c .least .ensures)
+    store-over _ _ _ _ (b .before .word-count .ensures) (b .if1 .left) (c .before .before .word-at .ensures)
+    (c .before .if2 .taken) (c .least .ensures)
 
 returns-3 : tie.Need-returns-3
 returns-3 c =
     let b = c .before .before .before in
-    store-named _ _ _ _ (b .before .word-count .ensures) (b .if1 .left) (c .before .before .word-at .ensures) (c .before .if2 .left) (c .least2 .ensures)
+    store-named _ _ _ _ (b .before .word-count .ensures) (b .if1 .left) (c .before .before .word-at .ensures)
+    (c .before .if2 .left) (c .least2 .ensures)
 
 pub store-length-spec : {M : Type 1} → statement M
 store-length-spec =
@@ -30,8 +32,6 @@ store-length-spec =
     (λ c κs. search needs)
     returns
     word-at-requires
-    (λ c. search needs)
-    (λ c. search needs)
     (λ c κs. search needs)
     returns-2
     (λ c. search needs)

@@ -10,7 +10,7 @@ use Rattle.forecasting.proofs.walk_input.Tie as tie
 sub-at : tie.Need-sub-at
 sub-at c =
     let b = c .before .before .before .before in
-    omega (arith, c .word-count .ensures, prices-few (b .args .bytes .now), b .pre .1)
+    omega (arith, c .word-count .ensures, prices-few (b .args .bytes .now), b .pre .1 .0)
 
 read-words-requires : tie.Need-read-words-requires
 read-words-requires c κs = store-inside _ _ (c .before .before .before .before .before .pre .0)
@@ -18,18 +18,22 @@ read-words-requires c κs = store-inside _ _ (c .before .before .before .before 
 read-words-requires-2 : tie.Need-read-words-requires-2
 read-words-requires-2 c κs =
     let b = c .before .before .before .before .before in
-    prices-inside _ _ _ (b .word-count .ensures) (b .before .before .before .before .pre .1)
+    prices-inside _ _ _ (b .word-count .ensures) (b .before .before .before .before .pre .1 .0)
 
 returns : tie.Need-returns
 returns c =
-    let after = c .before .before in
-    let second = after .before .before .before .before .before .before in
+    let after = c .before .before .before in
+    let set = after .before .before .before in
+    let second = set .before .before .before .before in
     let first = second .before .before .before .before in
     let counted = first .before .before in
     let start = counted .before .before .before .before in
-    let store = store-read (start .args .bytes .now) _ _ (start .pre .0) (first .read-words .ensures) in
-    let prices = prices-read (start .args .bytes .now) _ _ _ (counted .word-count .ensures) (start .pre .1) (second .read-words2 .ensures) in
-    walked-as _ (start .args .bytes .now) _ _ _ _ (after .before .before .settings .ensures) store prices (after .walk .ensures .0) (after .walk .ensures .1 .0)
+    let bytes = start .args .bytes .now in
+    let store = store-read bytes _ _ (start .pre .0) (first .read-words .ensures) in
+    let prices = prices-read bytes _ _ _ (counted .word-count .ensures) (start .pre .1 .0)
+    (second .read-words2 .ensures) in
+    walked-as _ bytes _ _ _ _ _ _ (set .settings .ensures) store prices (start .pre .1 .1) (after .walk .ensures .0)
+    (after .walk .ensures .1 .1)
 
 pub walk-input-spec : {M : Type 1} → statement M
 walk-input-spec =
@@ -41,6 +45,7 @@ walk-input-spec =
     read-words-requires-2
     (λ c κs. search needs)
     (λ c κs. search needs)
+    (λ c. search needs)
     (λ c. search needs)
     (λ c. search needs)
     returns)

@@ -7,7 +7,8 @@ use Rattle.forecast_cases.proofs.lines.encode.Statement.{statement}
 use Rattle.forecast_cases.proofs.lines.encode.Tie as tie
 
 abbrev Inv-loop : tie.InvT-loop
-Inv-loop bytes₀ text n₀ open₀ value₀ i₀ bytes n «open» value i = (i ≤ length text) × (n ≤ length bytes₀) × (length bytes ≡ length bytes₀)
+Inv-loop bytes₀ text n₀ open₀ value₀ i₀ bytes n «open» value i =
+    (i ≤ length text) × (n ≤ length bytes₀) × (length bytes ≡ length bytes₀)
 
 abbrev μ-loop : tie.MeasureT-loop
 μ-loop bytes₀ text n₀ open₀ value₀ i₀ bytes n «open» value i = length text - i

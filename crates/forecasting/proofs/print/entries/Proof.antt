@@ -1,17 +1,15 @@
 -- `forecasting::print::entries` is safe and ends. The measure is what is left of the list.
 use Prim.Native.Nat.{_≤_, _-_}
-use mathlib.Core.Path.{_≡_}
 use lib.ListN.{length}
 use borrow.Author.Needs.{needs}
-use Rattle.book.specs.Sizes.{mostRecords}
 use Rattle.forecasting.proofs.print.entries.Statement.{statement}
 use Rattle.forecasting.proofs.print.entries.Tie as tie
 
 abbrev Inv-loop : tie.InvT-loop
-Inv-loop count elected i₀ i = i ≤ mostRecords
+Inv-loop elected count i₀ i = i ≤ length elected
 
 abbrev μ-loop : tie.MeasureT-loop
-μ-loop count elected i₀ i = mostRecords - i
+μ-loop elected count i₀ i = length elected - i
 
 pub entries-spec : {M : Type 1} → statement M
 entries-spec =

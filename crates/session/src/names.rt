@@ -1,0 +1,98 @@
+// The names of lines. A name's number is its place among all; the lines that take alike are beside each other.
+use crate::numbers::place_of;
+ghost use Prim.Native.Nat.{_≤_};
+
+pub const TRAILED: u64 = 0;
+
+pub const ELECTED_BY: u64 = 1;
+
+pub const INCONSISTENCY: u64 = 2;
+
+pub const PREVIEW: u64 = 3;
+
+pub const LIMIT: u64 = 4;
+
+pub const COLLAR: u64 = 5;
+
+pub const COLLAR_TICK: u64 = 6;
+
+pub const CHILD: u64 = 7;
+
+pub const RECORD: u64 = 8;
+
+pub const TAKE: u64 = 9;
+
+pub const RESET: u64 = 10;
+
+pub const WELL_FORMED: u64 = 11;
+
+pub const QUANTITY: u64 = 12;
+
+pub const FIND: u64 = 13;
+
+pub const LAYOUT: u64 = 14;
+
+pub const CLEAR: u64 = 15;
+
+pub const CANCEL: u64 = 16;
+
+pub const ADMIT: u64 = 17;
+
+pub const UPDATE: u64 = 18;
+
+pub const SEGMENT: u64 = 19;
+
+pub const WALK: u64 = 20;
+
+pub const PASS: u64 = 21;
+
+pub const RUN: u64 = 22;
+
+pub const WORDS: u64 = 23;
+
+pub const SET: u64 = 24;
+
+pub const STORE: u64 = 25;
+
+pub const BOOK: u64 = 26;
+
+pub const PATH: u64 = 27;
+
+pub const LISTS: u64 = 28;
+
+pub const SHOW: u64 = 29;
+
+// Every name, with a space behind it.
+const NAMES: [u8; 208] =
+    *b"trailed elected_by inconsistency preview limit collar collar_tick child record take reset well_formed quantity find layout clear cancel admit update segment walk pass run words set store book path lists show ";
+
+// Whether two texts are the same.
+fn same(a: &[u8], b: &[u8]) -> bool {
+    if a.len() != b.len() {
+        return false;
+    }
+    let mut i = 0;
+    while i < a.len() {
+        if a[i] != b[i] {
+            return false;
+        }
+        i += 1;
+    }
+    true
+}
+
+// The number of a name; for any other text one more than the last.
+pub fn number(name: &[u8]) -> u64 {
+    let all: &[u8] = &NAMES;
+    let mut at: usize = 0;
+    let mut k: u64 = 0;
+    while at < all.len() {
+        let end = place_of(all, at, b' ');
+        if same(name, &all[at..end]) {
+            return k;
+        }
+        at = end + 1;
+        k += 1;
+    }
+    k
+}

@@ -1,0 +1,24 @@
+#!/usr/bin/env python3
+"""Writes the lines of store_tests, evaluation_tests and forecast_cases, and what the model answers.
+
+    model/cases.py        # stdin and stdout of these three crates"""
+import os
+
+import evaluation_cases
+import forecast
+import session
+import store_cases
+
+CRATES = os.path.join(os.path.dirname(os.path.abspath(__file__)), "..", "crates")
+
+
+def write(crate, lines, answers):
+    folder = os.path.join(CRATES, crate)
+    for name, text in ("stdin", "".join(line + "\n" for line in lines)), ("stdout", answers(lines)):
+        with open(os.path.join(folder, name), "w", encoding="ascii") as out:
+            out.write(text)
+
+
+write("store_tests", store_cases.lines(), session.answers)
+write("evaluation_tests", evaluation_cases.lines(), session.answers)
+write("forecast_cases", forecast.lines(), forecast.answers)
