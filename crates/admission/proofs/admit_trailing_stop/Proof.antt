@@ -12,12 +12,6 @@ use borrow.Author.Needs.{needs}
 use Rattle.admission.proofs.admit_trailing_stop.Statement.{statement}
 use Rattle.admission.proofs.admit_trailing_stop.Tie as tie
 
-ask-admission-requires : tie.Need-ask-admission-requires
-ask-admission-requires c κs = search needs
-
-enum-known-verdict : tie.Need-enum-known-verdict
-enum-known-verdict c = search needs
-
 enum-told : tie.Need-enum-told
 enum-told c = search needs
 
@@ -33,9 +27,6 @@ slice-read-path-after c =
     let h = all-yes _ _ (c .before .before .enum-told .given .1) (a .ask-admission .ensures) in
     omega (arith, wellFormed-room _ (admission-admissible _ _ _ _ _ _ (sym h) .0) .room)
 
-path-after-requires : tie.Need-path-after-requires
-path-after-requires c κs = search needs
-
 occupy-requires : tie.Need-occupy-requires
 occupy-requires c κs =
     let e = c .before .before .before .before in
@@ -44,17 +35,11 @@ occupy-requires c κs =
     let h = admission-admissible _ _ _ _ _ _ (sym (all-yes _ _ (e .enum-told .given .1) (a .ask-admission .ensures))) in
     (bookOf w, beyond w, wellFormed-stored w (h .0), h .1, h .2)
 
-same-length : tie.Need-same-length
-same-length c = search needs
-
 returns : tie.Need-returns
 unfolding toldAdmission
 returns c =
     let a = c .before .before .before in
     admit-refused _ _ _ _ _ _ _ _ (one-no _ _ _ (c .before .verdict .given .1) (a .ask-admission .ensures))
-
-same-length-2 : tie.Need-same-length-2
-same-length-2 c = search needs
 
 returns-2 : tie.Need-returns-2
 unfolding toldAdmission
@@ -71,16 +56,5 @@ returns-2 c =
 
 pub admit-trailing-stop-spec : {M : Type 1} → statement M
 admit-trailing-stop-spec =
-    tie.close
-    (tie.spec
-    ask-admission-requires
-    enum-known-verdict
-    enum-told
-    slice-read-n
-    slice-read-path-after
-    path-after-requires
-    occupy-requires
-    same-length
-    returns
-    same-length-2
-    returns-2)
+    tie.close (tie.spec (λ c κs. search needs) (λ c. search needs) enum-told slice-read-n slice-read-path-after
+    (λ c κs. search needs) occupy-requires (λ c. search needs) returns (λ c. search needs) returns-2)

@@ -66,25 +66,8 @@ returns-2 c =
 
 pub ask-admission-spec : {M : Type 1} → statement M
 ask-admission-spec =
-    tie.close
-    (tie.spec
-    (λ c κs. search needs)
-    returns
-    shared-slice-read-n
-    shared-slice-read-pending
-    shared-slice-read-next
-    shared-slice-read-tick
-    (λ c κs. search needs)
-    (λ c κs. search needs)
-    (λ c κs. search needs)
-    (λ c κs. search needs)
-    (λ c κs. search needs)
-    (λ c κs. search needs)
-    (λ c κs. search needs)
-    find-id-requires
-    (λ c κs. search needs)
-    (λ c κs. search needs)
-    (λ c κs. search needs)
-    (λ c κs. search needs)
-    (λ c κs. search needs)
+    tie.close (tie.spec (λ c κs. search needs) returns shared-slice-read-n shared-slice-read-pending
+    shared-slice-read-next shared-slice-read-tick (λ c κs. search needs) (λ c κs. search needs) (λ c κs. search needs)
+    (λ c κs. search needs) (λ c κs. search needs) (λ c κs. search needs) (λ c κs. search needs) find-id-requires
+    (λ c κs. search needs) (λ c κs. search needs) (λ c κs. search needs) (λ c κs. search needs) (λ c κs. search needs)
     returns-2)

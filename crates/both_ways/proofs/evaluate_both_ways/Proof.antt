@@ -6,27 +6,6 @@ use borrow.Author.Needs.{needs}
 use Rattle.both_ways.proofs.evaluate_both_ways.Statement.{statement}
 use Rattle.both_ways.proofs.evaluate_both_ways.Tie as tie
 
-over-ends-requires : tie.Need-over-ends-requires
-over-ends-requires c κs = search needs
-
-walk-requires : tie.Need-walk-requires
-walk-requires c κs = search needs
-
-same-length : tie.Need-same-length
-same-length c = search needs
-
-same-length-2 : tie.Need-same-length-2
-same-length-2 c = search needs
-
-same-length-3 : tie.Need-same-length-3
-same-length-3 c = search needs
-
-same-length-4 : tie.Need-same-length-4
-same-length-4 c = search needs
-
-same-length-5 : tie.Need-same-length-5
-same-length-5 c = search needs
-
 returns : tie.Need-returns
 returns c =
     let w = c .before .before .before in
@@ -42,13 +21,5 @@ returns c =
 
 pub evaluate-both-ways-spec : {M : Type 1} → statement M
 evaluate-both-ways-spec =
-    tie.close
-    (tie.spec
-    over-ends-requires
-    walk-requires
-    same-length
-    same-length-2
-    same-length-3
-    same-length-4
-    same-length-5
-    returns)
+    tie.close (tie.spec (λ c κs. search needs) (λ c κs. search needs) (λ c. search needs) (λ c. search needs)
+    (λ c. search needs) (λ c. search needs) (λ c. search needs) returns)

@@ -60,16 +60,5 @@ returns-4 c =
 
 pub chains-formed-spec : {M : Type 1} → statement M
 chains-formed-spec =
-    tie.close
-    (tie.spec
-    (λ c κs. search needs)
-    add-pending
-    (λ c. search needs)
-    returns
-    (λ c κs. search needs)
-    returns-2
-    (λ c κs. search needs)
-    returns-3
-    sub-walk-formed
-    (λ c κs. search needs)
-    returns-4)
+    tie.close (tie.spec (λ c κs. search needs) add-pending (λ c. search needs) returns (λ c κs. search needs)
+    returns-2 (λ c κs. search needs) returns-3 sub-walk-formed (λ c κs. search needs) returns-4)

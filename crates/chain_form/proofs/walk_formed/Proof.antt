@@ -103,26 +103,7 @@ returns-5 c = sym (walk-end _ _ _ _ _ _ _ (c .before .before .loop .inv .2) (c .
 
 pub walk-formed-spec : {M : Type 1} → statement M
 walk-formed-spec =
-    tie.close
-    (tie.spec
-    Inv-loop
-    μ-loop
-    (λ c κs. search needs)
-    (λ c κs. search needs)
-    (λ c κs. search needs)
-    loop-holds
-    (λ c. search needs)
-    (λ c. search needs)
-    returns
-    returns-2
-    (λ c κs. search needs)
-    returns-3
-    (λ c κs. search needs)
-    returns-4
-    cell-requires
-    (λ c. search needs)
-    (λ c. search needs)
-    loop-again
-    (λ c. search needs)
-    (λ c. search needs)
-    returns-5)
+    tie.close (tie.spec Inv-loop μ-loop (λ c κs. search needs) (λ c κs. search needs) (λ c κs. search needs)
+    loop-holds (λ c. search needs) (λ c. search needs) returns returns-2 (λ c κs. search needs) returns-3
+    (λ c κs. search needs) returns-4 cell-requires (λ c. search needs) (λ c. search needs) loop-again
+    (λ c. search needs) (λ c. search needs) returns-5)

@@ -16,9 +16,4 @@ returns-2 c =
 
 pub change-known-spec : {M : Type 1} → statement M
 change-known-spec =
-    tie.close
-    (tie.spec
-    (λ c κs. search needs)
-    returns
-    (λ c κs. search needs)
-    returns-2)
+    tie.close (tie.spec (λ c κs. search needs) returns (λ c κs. search needs) returns-2)

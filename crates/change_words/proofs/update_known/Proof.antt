@@ -22,12 +22,5 @@ returns-3 c =
 
 pub update-known-spec : {M : Type 1} → statement M
 update-known-spec =
-    tie.close
-    (tie.spec
-    (λ c. search needs)
-    returns
-    (λ c. search needs)
-    returns-2
-    (λ c. search needs)
-    (λ c κs. search needs)
-    returns-3)
+    tie.close (tie.spec (λ c. search needs) returns (λ c. search needs) returns-2 (λ c. search needs)
+    (λ c κs. search needs) returns-3)

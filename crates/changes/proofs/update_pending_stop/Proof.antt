@@ -14,27 +14,12 @@ use borrow.Author.Needs.{needs}
 use Rattle.changes.proofs.update_pending_stop.Statement.{statement}
 use Rattle.changes.proofs.update_pending_stop.Tie as tie
 
-cancels-requires : tie.Need-cancels-requires
-cancels-requires c κs = search needs
-
-cancel-pending-stop-requires : tie.Need-cancel-pending-stop-requires
-cancel-pending-stop-requires c κs = search needs
-
-same-length : tie.Need-same-length
-same-length c = search needs
-
 returns : tie.Need-returns
 returns c =
     let k = c .before .before in
     let t = k .before .before in
     let o = outcome-parts _ _ (update-cancels _ _ _ _ (sym (t .before .cancels .ensures) ∙ t .if1 .taken)) in
     (k .cancel-pending-stop .ensures .0 ∙ o .0, k .cancel-pending-stop .ensures .1 ∙ o .1)
-
-well-formed-requires : tie.Need-well-formed-requires
-well-formed-requires c κs = search needs
-
-same-length-2 : tie.Need-same-length-2
-same-length-2 c = search needs
 
 returns-2 : tie.Need-returns-2
 unfolding toldStop
@@ -50,9 +35,6 @@ find-id-requires : tie.Need-find-id-requires
 find-id-requires c κs =
     let b = c .before .before in
     (sym (b .before .well-formed .ensures) ∙ not-false _ (b .if2 .left), search needs)
-
-same-length-3 : tie.Need-same-length-3
-same-length-3 c = search needs
 
 returns-3 : tie.Need-returns-3
 unfolding toldStop
@@ -73,17 +55,8 @@ slice-read-next c =
     let b = c .before .before .before .before .before .before .before in
     omega (arith, wellFormed-room _ (sym (b .before .well-formed .ensures) ∙ not-false _ (b .if2 .left)) .room)
 
-ask-change-requires : tie.Need-ask-change-requires
-ask-change-requires c κs = search needs
-
-enum-known-verdict : tie.Need-enum-known-verdict
-enum-known-verdict c = search needs
-
 enum-told : tie.Need-enum-told
 enum-told c = search needs
-
-changed-entry-requires : tie.Need-changed-entry-requires
-changed-entry-requires c κs = search needs
 
 next-after-requires : tie.Need-next-after-requires
 next-after-requires c κs =
@@ -124,9 +97,6 @@ change-requires c κs =
       }) (omega (arith, n .next-after .ok)),
     )
 
-same-length-4 : tie.Need-same-length-4
-same-length-4 c = search needs
-
 returns-4 : tie.Need-returns-4
 unfolding toldStop
 returns-4 c =
@@ -140,9 +110,6 @@ returns-4 c =
     let others = sym (b .before .before .before .before .cancels .ensures) ∙ b .before .before .before .if1 .left in
     outcome-parts _ _ (update-refused _ _ _ w e _ f others _ (t .entry-at .ensures) _
     (one-no _ _ _ (c .before .verdict .given .1) (a .ask-change .ensures (bookOf w) (next-word w))))
-
-same-length-5 : tie.Need-same-length-5
-same-length-5 c = search needs
 
 returns-5 : tie.Need-returns-5
 unfolding toldStop
@@ -176,28 +143,7 @@ returns-5 c =
 
 pub update-pending-stop-spec : {M : Type 1} → statement M
 update-pending-stop-spec =
-    tie.close
-    (tie.spec
-    cancels-requires
-    cancel-pending-stop-requires
-    same-length
-    returns
-    well-formed-requires
-    same-length-2
-    returns-2
-    slice-read-n
-    find-id-requires
-    same-length-3
-    returns-3
-    entry-at-requires
-    slice-read-next
-    ask-change-requires
-    enum-known-verdict
-    enum-told
-    changed-entry-requires
-    next-after-requires
-    change-requires
-    same-length-4
-    returns-4
-    same-length-5
-    returns-5)
+    tie.close (tie.spec (λ c κs. search needs) (λ c κs. search needs) (λ c. search needs) returns
+    (λ c κs. search needs) (λ c. search needs) returns-2 slice-read-n find-id-requires (λ c. search needs) returns-3
+    entry-at-requires slice-read-next (λ c κs. search needs) (λ c. search needs) enum-told (λ c κs. search needs)
+    next-after-requires change-requires (λ c. search needs) returns-4 (λ c. search needs) returns-5)

@@ -96,26 +96,6 @@ loop-again-2 c =
 
 pub drop-elected-spec : {M : Type 1} → statement M
 drop-elected-spec =
-    tie.close
-    (tie.spec
-    Inv-loop
-    μ-loop
-    (λ c κs. search needs)
-    (λ c κs. search needs)
-    loop-holds
-    mul-i
-    slice-read-i
-    same-length
-    returns
-    cell-requires
-    terms-at-requires
-    sub-left
-    (λ c κs. search needs)
-    mul-next
-    slice-read-next
-    mul-s
-    slice-write-s
-    loop-less
-    loop-again
-    loop-less-2
-    loop-again-2)
+    tie.close (tie.spec Inv-loop μ-loop (λ c κs. search needs) (λ c κs. search needs) loop-holds mul-i slice-read-i
+    same-length returns cell-requires terms-at-requires sub-left (λ c κs. search needs) mul-next slice-read-next mul-s
+    slice-write-s loop-less loop-again loop-less-2 loop-again-2)

@@ -9,9 +9,6 @@ use Rattle.electing.proofs.Heads.{head-record, firstElected-end, firstE
 use Rattle.electing.proofs.first_elected.Statement.{statement}
 use Rattle.electing.proofs.first_elected.Tie as tie
 
-head-of-requires : tie.Need-head-of-requires
-head-of-requires c κs = search needs
-
 mul-i : tie.Need-mul-i
 mul-i c = omega (arith, c .head-of .ensures, name-stands (Ordered (ByStop (c .before .before .args .side))) .high)
 
@@ -34,9 +31,6 @@ terms-at-requires c κs =
     head-record _ _ ch h (Ordered (ByStop (c .before .before .before .before .args .side))) _
     (c .before .before .head-of .ensures) (c .if1 .left)
 
-elected-by-requires : tie.Need-elected-by-requires
-elected-by-requires c κs = search needs
-
 returns-2 : tie.Need-returns-2
 returns-2 c =
     let t = c .before .before in
@@ -51,13 +45,5 @@ returns-3 c =
 
 pub first-elected-spec : {M : Type 1} → statement M
 first-elected-spec =
-    tie.close
-    (tie.spec
-    head-of-requires
-    mul-i
-    shared-slice-read-i
-    returns
-    terms-at-requires
-    elected-by-requires
-    returns-2
-    returns-3)
+    tie.close (tie.spec (λ c κs. search needs) mul-i shared-slice-read-i returns terms-at-requires
+    (λ c κs. search needs) returns-2 returns-3)

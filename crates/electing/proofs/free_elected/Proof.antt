@@ -75,17 +75,5 @@ loop-again c =
 
 pub free-elected-spec : {M : Type 1} → statement M
 free-elected-spec =
-    tie.close
-    (tie.spec
-    Inv-loop
-    μ-loop
-    loop-holds
-    first-elected-requires
-    same-length
-    returns
-    take-out-requires
-    write-free-requires
-    push-requires
-    add-m
-    loop-less
-    loop-again)
+    tie.close (tie.spec Inv-loop μ-loop loop-holds first-elected-requires same-length returns take-out-requires
+    write-free-requires push-requires add-m loop-less loop-again)

@@ -13,9 +13,6 @@ use Rattle.electing.proofs.take_elected.Tie as tie
 first-elected-requires : tie.Need-first-elected-requires
 first-elected-requires c κs = let (b, r, st) = c .before .before .pre in (chainsOf b, stored-holds st .chained)
 
-same-length : tie.Need-same-length
-same-length c = search needs
-
 returns : tie.Need-returns
 returns c = λ b r st. election-none _ _ st (sym (c .before .first-elected .ensures) ∙ c .if1 .taken)
 
@@ -72,15 +69,5 @@ returns-2 c =
 
 pub take-elected-spec : {M : Type 1} → statement M
 take-elected-spec =
-    tie.close
-    (tie.spec
-    first-elected-requires
-    same-length
-    returns
-    drop-elected-requires
-    free-elected-requires
-    slice-read-count
-    sub-s
-    slice-write-s
-    same-length-2
-    returns-2)
+    tie.close (tie.spec first-elected-requires (λ c. search needs) returns drop-elected-requires free-elected-requires
+    slice-read-count sub-s slice-write-s same-length-2 returns-2)

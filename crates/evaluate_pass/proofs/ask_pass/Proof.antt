@@ -32,12 +32,5 @@ returns-2 c =
 
 pub ask-pass-spec : {M : Type 1} → statement M
 ask-pass-spec =
-    tie.close
-    (tie.spec
-    (λ c κs. search needs)
-    returns
-    shared-slice-read-count
-    (λ c κs. search needs)
-    (λ c κs. search needs)
-    (λ c κs. search needs)
-    returns-2)
+    tie.close (tie.spec (λ c κs. search needs) returns shared-slice-read-count (λ c κs. search needs)
+    (λ c κs. search needs) (λ c κs. search needs) returns-2)

@@ -7,12 +7,6 @@ use borrow.Author.Needs.{needs}
 use Rattle.evaluate_pass.proofs.evaluate_pending_stops.Statement.{statement}
 use Rattle.evaluate_pass.proofs.evaluate_pending_stops.Tie as tie
 
-ask-pass-requires : tie.Need-ask-pass-requires
-ask-pass-requires c κs = search needs
-
-enum-known-verdict : tie.Need-enum-known-verdict
-enum-known-verdict c = search needs
-
 enum-told : tie.Need-enum-told
 enum-told c = search needs
 
@@ -21,20 +15,11 @@ pass-over-requires c κs =
     let e = c .before .before in
     sym (all-yes _ _ (e .enum-told .given .1) (e .before .before .ask-pass .ensures))
 
-same-length : tie.Need-same-length
-same-length c = search needs
-
 returns : tie.Need-returns
 unfolding toldPass
 returns c =
     let a = c .before .before .before in
     pass-refused _ _ _ _ _ _ (one-no _ _ _ (c .before .verdict .given .1) (a .ask-pass .ensures))
-
-same-length-2 : tie.Need-same-length-2
-same-length-2 c = search needs
-
-same-length-3 : tie.Need-same-length-3
-same-length-3 c = search needs
 
 returns-2 : tie.Need-returns-2
 unfolding toldPass
@@ -46,14 +31,5 @@ returns-2 c =
 
 pub evaluate-pending-stops-spec : {M : Type 1} → statement M
 evaluate-pending-stops-spec =
-    tie.close
-    (tie.spec
-    ask-pass-requires
-    enum-known-verdict
-    enum-told
-    pass-over-requires
-    same-length
-    returns
-    same-length-2
-    same-length-3
-    returns-2)
+    tie.close (tie.spec (λ c κs. search needs) (λ c. search needs) enum-told pass-over-requires (λ c. search needs)
+    returns (λ c. search needs) (λ c. search needs) returns-2)

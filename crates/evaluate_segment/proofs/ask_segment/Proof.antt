@@ -37,12 +37,5 @@ returns-2 c =
 
 pub ask-segment-spec : {M : Type 1} → statement M
 ask-segment-spec =
-    tie.close
-    (tie.spec
-    (λ c κs. search needs)
-    returns
-    shared-slice-read-count
-    (λ c κs. search needs)
-    mul-ask
-    (λ c κs. search needs)
-    returns-2)
+    tie.close (tie.spec (λ c κs. search needs) returns shared-slice-read-count (λ c κs. search needs) mul-ask
+    (λ c κs. search needs) returns-2)

@@ -12,12 +12,6 @@ use borrow.Author.Needs.{needs}
 use Rattle.evaluate_segment.proofs.segment.Statement.{statement}
 use Rattle.evaluate_segment.proofs.segment.Tie as tie
 
-ask-segment-requires : tie.Need-ask-segment-requires
-ask-segment-requires c κs = search needs
-
-enum-known-verdict : tie.Need-enum-known-verdict
-enum-known-verdict c = search needs
-
 enum-told : tie.Need-enum-told
 enum-told c = search needs
 
@@ -55,23 +49,11 @@ complete-requires c κs =
       segment-within (g .settings) (g .prints) w (g .elected .now) (g .moved .now) h _ (d .2) _ (d .1),
     )
 
-same-length : tie.Need-same-length
-same-length c = search needs
-
 returns : tie.Need-returns
 unfolding toldCounts
 returns c =
     let a = c .before .before .before in
     segment-refused _ _ _ _ _ _ (one-no _ _ _ (c .before .verdict .given .1) (a .ask-segment .ensures))
-
-same-length-2 : tie.Need-same-length-2
-same-length-2 c = search needs
-
-same-length-3 : tie.Need-same-length-3
-same-length-3 c = search needs
-
-same-length-4 : tie.Need-same-length-4
-same-length-4 c = search needs
 
 returns-2 : tie.Need-returns-2
 unfolding toldCounts
@@ -91,17 +73,6 @@ returns-2 c =
 
 pub segment-spec : {M : Type 1} → statement M
 segment-spec =
-    tie.close
-    (tie.spec
-    ask-segment-requires
-    enum-known-verdict
-    enum-told
-    slice-read-n
-    segment-listed-requires
-    complete-requires
-    same-length
-    returns
-    same-length-2
-    same-length-3
-    same-length-4
+    tie.close (tie.spec (λ c κs. search needs) (λ c. search needs) enum-told slice-read-n segment-listed-requires
+    complete-requires (λ c. search needs) returns (λ c. search needs) (λ c. search needs) (λ c. search needs)
     returns-2)

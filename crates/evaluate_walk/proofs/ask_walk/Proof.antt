@@ -35,12 +35,5 @@ returns-2 c =
 
 pub ask-walk-spec : {M : Type 1} → statement M
 ask-walk-spec =
-    tie.close
-    (tie.spec
-    (λ c κs. search needs)
-    returns
-    shared-slice-read-count
-    (λ c κs. search needs)
-    (λ c κs. search needs)
-    (λ c κs. search needs)
-    returns-2)
+    tie.close (tie.spec (λ c κs. search needs) returns shared-slice-read-count (λ c κs. search needs)
+    (λ c κs. search needs) (λ c κs. search needs) returns-2)

@@ -15,12 +15,6 @@ use borrow.Author.Needs.{needs}
 use Rattle.evaluate_walk.proofs.walk.Statement.{statement}
 use Rattle.evaluate_walk.proofs.walk.Tie as tie
 
-ask-walk-requires : tie.Need-ask-walk-requires
-ask-walk-requires c κs = search needs
-
-enum-known-verdict : tie.Need-enum-known-verdict
-enum-known-verdict c = search needs
-
 enum-told : tie.Need-enum-told
 enum-told c = search needs
 
@@ -63,20 +57,11 @@ complete-requires c κs =
       walk-within (g .settings) (g .prev) ps w (g .elected .now) h _ (d .2) _ (d .1),
     )
 
-same-length : tie.Need-same-length
-same-length c = search needs
-
 returns : tie.Need-returns
 unfolding toldCounts
 returns c =
     let a = c .before .before .before in
     walk-refused _ _ _ _ _ _ (one-no _ _ _ (c .before .verdict .given .1) (a .ask-walk .ensures))
-
-same-length-2 : tie.Need-same-length-2
-same-length-2 c = search needs
-
-same-length-3 : tie.Need-same-length-3
-same-length-3 c = search needs
 
 returns-2 : tie.Need-returns-2
 unfolding toldCounts
@@ -95,16 +80,5 @@ returns-2 c =
 
 pub walk-spec : {M : Type 1} → statement M
 walk-spec =
-    tie.close
-    (tie.spec
-    ask-walk-requires
-    enum-known-verdict
-    enum-told
-    slice-read-n
-    walk-points-requires
-    complete-requires
-    same-length
-    returns
-    same-length-2
-    same-length-3
-    returns-2)
+    tie.close (tie.spec (λ c κs. search needs) (λ c. search needs) enum-told slice-read-n walk-points-requires
+    complete-requires (λ c. search needs) returns (λ c. search needs) (λ c. search needs) returns-2)

@@ -10,11 +10,5 @@ returns c = rw (c .before .before .protection-of .ensures)
 
 pub settings-of-spec : {M : Type 1} → statement M
 settings-of-spec =
-    tie.close
-    (tie.spec
-    (λ c. search needs)
-    (λ c. search needs)
-    (λ c κs. search needs)
-    (λ c. search needs)
-    (λ c. search needs)
-    returns)
+    tie.close (tie.spec (λ c. search needs) (λ c. search needs) (λ c κs. search needs) (λ c. search needs)
+    (λ c. search needs) returns)

@@ -47,16 +47,6 @@ walk-input-requires c κs =
 
 pub forecast-spec : {M : Type 1} → statement M
 forecast-spec =
-    tie.close
-    (tie.spec
-    (λ c κs. search needs)
-    (λ c κs. search needs)
-    (λ c κs. search needs)
-    (λ c κs. search needs)
-    array-borrow-prefix-store
-    slice-aggregate-walk-input
-    array-borrow-prefix-prices
-    slice-aggregate-walk-input-2
-    walk-input-requires
-    (λ c. search needs)
-    (λ c. search needs))
+    tie.close (tie.spec (λ c κs. search needs) (λ c κs. search needs) (λ c κs. search needs) (λ c κs. search needs)
+    array-borrow-prefix-store slice-aggregate-walk-input array-borrow-prefix-prices slice-aggregate-walk-input-2
+    walk-input-requires (λ c. search needs) (λ c. search needs))

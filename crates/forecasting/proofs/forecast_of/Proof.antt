@@ -13,14 +13,6 @@ slice-aggregate-print-forecast c = sym (length-take-le _ _ (array-share-prefix-b
 
 pub forecast-of-spec : {M : Type 1} → statement M
 forecast-of-spec =
-    tie.close
-    (tie.spec
-    (λ c κs. search needs)
-    (λ c. search needs)
-    (λ c κs. search needs)
-    (λ c κs. search needs)
-    (λ c κs. search needs)
-    array-share-prefix-bytes
-    slice-aggregate-print-forecast
-    (λ c κs. search needs)
+    tie.close (tie.spec (λ c κs. search needs) (λ c. search needs) (λ c κs. search needs) (λ c κs. search needs)
+    (λ c κs. search needs) array-share-prefix-bytes slice-aggregate-print-forecast (λ c κs. search needs)
     (λ c. search needs))

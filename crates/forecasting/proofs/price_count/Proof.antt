@@ -30,14 +30,5 @@ returns-4 c =
 
 pub price-count-spec : {M : Type 1} → statement M
 price-count-spec =
-    tie.close
-    (tie.spec
-    (λ c κs. search needs)
-    (λ c κs. search needs)
-    returns
-    word-at-requires
-    returns-2
-    (λ c. search needs)
-    (λ c. search needs)
-    returns-3
-    returns-4)
+    tie.close (tie.spec (λ c κs. search needs) (λ c κs. search needs) returns word-at-requires returns-2
+    (λ c. search needs) (λ c. search needs) returns-3 returns-4)

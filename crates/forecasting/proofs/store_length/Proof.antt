@@ -27,14 +27,5 @@ returns-3 c =
 
 pub store-length-spec : {M : Type 1} → statement M
 store-length-spec =
-    tie.close
-    (tie.spec
-    (λ c κs. search needs)
-    returns
-    word-at-requires
-    (λ c κs. search needs)
-    returns-2
-    (λ c. search needs)
-    (λ c. search needs)
-    (λ c κs. search needs)
-    returns-3)
+    tie.close (tie.spec (λ c κs. search needs) returns word-at-requires (λ c κs. search needs) returns-2
+    (λ c. search needs) (λ c. search needs) (λ c κs. search needs) returns-3)

@@ -37,15 +37,5 @@ returns c =
 
 pub walk-input-spec : {M : Type 1} → statement M
 walk-input-spec =
-    tie.close
-    (tie.spec
-    (λ c κs. search needs)
-    sub-at
-    read-words-requires
-    read-words-requires-2
-    (λ c κs. search needs)
-    (λ c κs. search needs)
-    (λ c. search needs)
-    (λ c. search needs)
-    (λ c. search needs)
-    returns)
+    tie.close (tie.spec (λ c κs. search needs) sub-at read-words-requires read-words-requires-2 (λ c κs. search needs)
+    (λ c κs. search needs) (λ c. search needs) (λ c. search needs) (λ c. search needs) returns)

@@ -10,8 +10,4 @@ returns c = c .of-collar .ensures ∙ ap number (c .before .try-new .ensures)
 
 pub check-collar-spec : {M : Type 1} → statement M
 check-collar-spec =
-    tie.close
-    (tie.spec
-    (λ c κs. search needs)
-    (λ c κs. search needs)
-    returns)
+    tie.close (tie.spec (λ c κs. search needs) (λ c κs. search needs) returns)

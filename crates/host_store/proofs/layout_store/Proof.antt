@@ -12,9 +12,4 @@ returns c =
 
 pub layout-store-spec : {M : Type 1} → statement M
 layout-store-spec =
-    tie.close
-    (tie.spec
-    (λ c κs. search needs)
-    (λ c κs. search needs)
-    (λ c. search needs)
-    returns)
+    tie.close (tie.spec (λ c κs. search needs) (λ c κs. search needs) (λ c. search needs) returns)

@@ -8,8 +8,4 @@ returns c = rw (c .before .before .pending-stop-quantity .ensures) at (c .of-qua
 
 pub pending-stop-quantity-spec : {M : Type 1} → statement M
 pending-stop-quantity-spec =
-    tie.close
-    (tie.spec
-    (λ c κs. search needs)
-    (λ c κs. search needs)
-    returns)
+    tie.close (tie.spec (λ c κs. search needs) (λ c κs. search needs) returns)

@@ -43,15 +43,5 @@ returns-2 c = walking-end _ _ _ (c .before .before .before .pre .0 .1) _ (c .bef
 
 pub is-new-spec : {M : Type 1} → statement M
 is-new-spec =
-    tie.close
-    (tie.spec
-    Inv-loop
-    μ-loop
-    loop-holds
-    (λ c κs. search needs)
-    returns
-    (λ c. search needs)
-    (λ c. search needs)
-    loop-less
-    loop-again
-    returns-2)
+    tie.close (tie.spec Inv-loop μ-loop loop-holds (λ c κs. search needs) returns (λ c. search needs)
+    (λ c. search needs) loop-less loop-again returns-2)

@@ -9,26 +9,8 @@ use borrow.Author.Needs.{needs}
 use Rattle.lent_pass.proofs.pass_words.Statement.{statement}
 use Rattle.lent_pass.proofs.pass_words.Tie as tie
 
-least-requires : tie.Need-least-requires
-least-requires c κs = search needs
-
-slice-relend-prefix-evaluate-pending-stops : tie.Need-slice-relend-prefix-evaluate-pending-stops
-slice-relend-prefix-evaluate-pending-stops c = search needs
-
 slice-aggregate-evaluate-pending-stops : tie.Need-slice-aggregate-evaluate-pending-stops
 slice-aggregate-evaluate-pending-stops c = sym (part-length _ _ _ _ refl (c .before .before .least .ensures))
-
-evaluate-pending-stops-requires : tie.Need-evaluate-pending-stops-requires
-evaluate-pending-stops-requires c κs = search needs
-
-pass-count-requires : tie.Need-pass-count-requires
-pass-count-requires c κs = search needs
-
-same-length : tie.Need-same-length
-same-length c = search needs
-
-same-length-2 : tie.Need-same-length-2
-same-length-2 c = search needs
 
 returns : tie.Need-returns
 returns c =
@@ -45,13 +27,5 @@ returns c =
 
 pub pass-words-spec : {M : Type 1} → statement M
 pass-words-spec =
-    tie.close
-    (tie.spec
-    least-requires
-    slice-relend-prefix-evaluate-pending-stops
-    slice-aggregate-evaluate-pending-stops
-    evaluate-pending-stops-requires
-    pass-count-requires
-    same-length
-    same-length-2
-    returns)
+    tie.close (tie.spec (λ c κs. search needs) (λ c. search needs) slice-aggregate-evaluate-pending-stops
+    (λ c κs. search needs) (λ c κs. search needs) (λ c. search needs) (λ c. search needs) returns)

@@ -8,26 +8,8 @@ use borrow.Author.Needs.{needs}
 use Rattle.lent_run.proofs.run_words.Statement.{statement}
 use Rattle.lent_run.proofs.run_words.Tie as tie
 
-least-requires : tie.Need-least-requires
-least-requires c κs = search needs
-
-slice-relend-prefix-run-stop-triggers : tie.Need-slice-relend-prefix-run-stop-triggers
-slice-relend-prefix-run-stop-triggers c = search needs
-
 slice-aggregate-run-stop-triggers : tie.Need-slice-aggregate-run-stop-triggers
 slice-aggregate-run-stop-triggers c = sym (part-length _ _ _ _ refl (c .before .before .before .least .ensures))
-
-run-stop-triggers-requires : tie.Need-run-stop-triggers-requires
-run-stop-triggers-requires c κs = search needs
-
-pass-count-requires : tie.Need-pass-count-requires
-pass-count-requires c κs = search needs
-
-same-length : tie.Need-same-length
-same-length c = search needs
-
-same-length-2 : tie.Need-same-length-2
-same-length-2 c = search needs
 
 returns : tie.Need-returns
 returns c =
@@ -45,13 +27,5 @@ returns c =
 
 pub run-words-spec : {M : Type 1} → statement M
 run-words-spec =
-    tie.close
-    (tie.spec
-    least-requires
-    slice-relend-prefix-run-stop-triggers
-    slice-aggregate-run-stop-triggers
-    run-stop-triggers-requires
-    pass-count-requires
-    same-length
-    same-length-2
-    returns)
+    tie.close (tie.spec (λ c κs. search needs) (λ c. search needs) slice-aggregate-run-stop-triggers
+    (λ c κs. search needs) (λ c κs. search needs) (λ c. search needs) (λ c. search needs) returns)

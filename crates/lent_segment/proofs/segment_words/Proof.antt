@@ -6,41 +6,11 @@ use borrow.Author.Needs.{needs}
 use Rattle.lent_segment.proofs.segment_words.Statement.{statement}
 use Rattle.lent_segment.proofs.segment_words.Tie as tie
 
-least-requires : tie.Need-least-requires
-least-requires c κs = search needs
-
-least-requires-2 : tie.Need-least-requires-2
-least-requires-2 c κs = search needs
-
-slice-relend-prefix-segment : tie.Need-slice-relend-prefix-segment
-slice-relend-prefix-segment c = search needs
-
 slice-aggregate-segment : tie.Need-slice-aggregate-segment
 slice-aggregate-segment c = sym (part-length _ _ _ _ refl (c .before .before .before .least .ensures))
 
-slice-relend-prefix-segment-2 : tie.Need-slice-relend-prefix-segment-2
-slice-relend-prefix-segment-2 c = search needs
-
 slice-aggregate-segment-2 : tie.Need-slice-aggregate-segment-2
 slice-aggregate-segment-2 c = sym (part-length _ _ _ _ refl (c .before .before .before .least2 .ensures))
-
-segment-requires : tie.Need-segment-requires
-segment-requires c κs = search needs
-
-elected-count-requires : tie.Need-elected-count-requires
-elected-count-requires c κs = search needs
-
-moved-count-requires : tie.Need-moved-count-requires
-moved-count-requires c κs = search needs
-
-same-length : tie.Need-same-length
-same-length c = search needs
-
-same-length-2 : tie.Need-same-length-2
-same-length-2 c = search needs
-
-same-length-3 : tie.Need-same-length-3
-same-length-3 c = search needs
 
 returns : tie.Need-returns
 returns c =
@@ -56,18 +26,6 @@ returns c =
 
 pub segment-words-spec : {M : Type 1} → statement M
 segment-words-spec =
-    tie.close
-    (tie.spec
-    least-requires
-    least-requires-2
-    slice-relend-prefix-segment
-    slice-aggregate-segment
-    slice-relend-prefix-segment-2
-    slice-aggregate-segment-2
-    segment-requires
-    elected-count-requires
-    moved-count-requires
-    same-length
-    same-length-2
-    same-length-3
-    returns)
+    tie.close (tie.spec (λ c κs. search needs) (λ c κs. search needs) (λ c. search needs) slice-aggregate-segment
+    (λ c. search needs) slice-aggregate-segment-2 (λ c κs. search needs) (λ c κs. search needs) (λ c κs. search needs)
+    (λ c. search needs) (λ c. search needs) (λ c. search needs) returns)

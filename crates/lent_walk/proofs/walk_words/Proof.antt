@@ -12,26 +12,8 @@ use borrow.Author.Needs.{needs}
 use Rattle.lent_walk.proofs.walk_words.Statement.{statement}
 use Rattle.lent_walk.proofs.walk_words.Tie as tie
 
-least-requires : tie.Need-least-requires
-least-requires c κs = search needs
-
-slice-relend-prefix-walk : tie.Need-slice-relend-prefix-walk
-slice-relend-prefix-walk c = search needs
-
 slice-aggregate-walk : tie.Need-slice-aggregate-walk
 slice-aggregate-walk c = sym (part-length _ _ _ _ refl (c .before .before .least .ensures))
-
-walk-requires : tie.Need-walk-requires
-walk-requires c κs = search needs
-
-elected-count-requires : tie.Need-elected-count-requires
-elected-count-requires c κs = search needs
-
-same-length : tie.Need-same-length
-same-length c = search needs
-
-same-length-2 : tie.Need-same-length-2
-same-length-2 c = search needs
 
 returns : tie.Need-returns
 returns c =
@@ -49,13 +31,5 @@ returns c =
 
 pub walk-words-spec : {M : Type 1} → statement M
 walk-words-spec =
-    tie.close
-    (tie.spec
-    least-requires
-    slice-relend-prefix-walk
-    slice-aggregate-walk
-    walk-requires
-    elected-count-requires
-    same-length
-    same-length-2
-    returns)
+    tie.close (tie.spec (λ c κs. search needs) (λ c. search needs) slice-aggregate-walk (λ c κs. search needs)
+    (λ c κs. search needs) (λ c. search needs) (λ c. search needs) returns)

@@ -64,19 +64,5 @@ loop-again c =
 
 pub seek-spec : {M : Type 1} → statement M
 seek-spec =
-    tie.close
-    (tie.spec
-    Inv-loop
-    μ-loop
-    (λ c κs. search needs)
-    loop-holds
-    (λ c. search needs)
-    (λ c. search needs)
-    returns
-    rank-of-requires-2
-    (λ c κs. search needs)
-    returns-2
-    cell-requires
-    sub-left
-    loop-less
-    loop-again)
+    tie.close (tie.spec Inv-loop μ-loop (λ c κs. search needs) loop-holds (λ c. search needs) (λ c. search needs)
+    returns rank-of-requires-2 (λ c κs. search needs) returns-2 cell-requires sub-left loop-less loop-again)

@@ -7,33 +7,6 @@ use borrow.Author.Needs.{needs}
 use Rattle.listing.proofs.list_fill.Statement.{statement}
 use Rattle.listing.proofs.list_fill.Tie as tie
 
-entry-at-requires : tie.Need-entry-at-requires
-entry-at-requires c κs = search needs
-
-number-requires : tie.Need-number-requires
-number-requires c κs = search needs
-
-cast-t16 : tie.Need-cast-t16
-cast-t16 c = search needs
-
-number-requires-2 : tie.Need-number-requires-2
-number-requires-2 c κs = search needs
-
-cast-t18 : tie.Need-cast-t18
-cast-t18 c = search needs
-
-mul-t20 : tie.Need-mul-t20
-mul-t20 c = search needs
-
-slice-set-from-list : tie.Need-slice-set-from-list
-slice-set-from-list c = search needs
-
-add-result : tie.Need-add-result
-add-result c = search needs
-
-same-length : tie.Need-same-length
-same-length c = search needs
-
 returns : tie.Need-returns
 returns c =
     let t = c .before .before .before .before .before .before .before in
@@ -45,15 +18,5 @@ returns c =
 
 pub list-fill-spec : {M : Type 1} → statement M
 list-fill-spec =
-    tie.close
-    (tie.spec
-    entry-at-requires
-    number-requires
-    cast-t16
-    number-requires-2
-    cast-t18
-    mul-t20
-    slice-set-from-list
-    add-result
-    same-length
-    returns)
+    tie.close (tie.spec (λ c κs. search needs) (λ c κs. search needs) (λ c. search needs) (λ c κs. search needs)
+    (λ c. search needs) (λ c. search needs) (λ c. search needs) (λ c. search needs) (λ c. search needs) returns)

@@ -5,15 +5,6 @@ use borrow.Author.Needs.{needs}
 use Rattle.order_update.proofs.changed_entry.Statement.{statement}
 use Rattle.order_update.proofs.changed_entry.Tie as tie
 
-changed-terms-requires : tie.Need-changed-terms-requires
-changed-terms-requires c κs = search needs
-
-changed-quantity-requires : tie.Need-changed-quantity-requires
-changed-quantity-requires c κs = search needs
-
-takes-sequence-requires : tie.Need-takes-sequence-requires
-takes-sequence-requires c κs = search needs
-
 returns : tie.Need-returns
 unfolding changedEntry
 returns c =
@@ -42,10 +33,4 @@ returns-2 c =
 
 pub changed-entry-spec : {M : Type 1} → statement M
 changed-entry-spec =
-    tie.close
-    (tie.spec
-    changed-terms-requires
-    changed-quantity-requires
-    takes-sequence-requires
-    returns
-    returns-2)
+    tie.close (tie.spec (λ c κs. search needs) (λ c κs. search needs) (λ c κs. search needs) returns returns-2)

@@ -7,24 +7,6 @@ use Rattle.order_update.proofs.changed_terms.Tie as tie
 enum-told : tie.Need-enum-told
 enum-told c = search needs
 
-enum-known-update : tie.Need-enum-known-update
-enum-known-update c = search needs
-
-with-terms-requires : tie.Need-with-terms-requires
-with-terms-requires c κs = search needs
-
-enum-known-update-2 : tie.Need-enum-known-update-2
-enum-known-update-2 c = search needs
-
-with-terms-requires-2 : tie.Need-with-terms-requires-2
-with-terms-requires-2 c κs = search needs
-
-enum-known-update-3 : tie.Need-enum-known-update-3
-enum-known-update-3 c = search needs
-
-with-terms-requires-3 : tie.Need-with-terms-requires-3
-with-terms-requires-3 c κs = search needs
-
 returns : tie.Need-returns
 unfolding changedTerms
 returns c = rw (c .enum-told .given .1)
@@ -43,16 +25,5 @@ returns-4 c = rw (c .before .before .update3 .given .1) (c .with-terms3 .ensures
 
 pub changed-terms-spec : {M : Type 1} → statement M
 changed-terms-spec =
-    tie.close
-    (tie.spec
-    enum-told
-    enum-known-update
-    with-terms-requires
-    enum-known-update-2
-    with-terms-requires-2
-    enum-known-update-3
-    with-terms-requires-3
-    returns
-    returns-2
-    returns-3
-    returns-4)
+    tie.close (tie.spec enum-told (λ c. search needs) (λ c κs. search needs) (λ c. search needs)
+    (λ c κs. search needs) (λ c. search needs) (λ c κs. search needs) returns returns-2 returns-3 returns-4)

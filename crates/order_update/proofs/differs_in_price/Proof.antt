@@ -7,15 +7,6 @@ use Rattle.order_update.proofs.differs_in_price.Tie as tie
 enum-told : tie.Need-enum-told
 enum-told c = search needs
 
-enum-known-update : tie.Need-enum-known-update
-enum-known-update c = search needs
-
-enum-told-2 : tie.Need-enum-told-2
-enum-told-2 c = search needs
-
-enum-told-3 : tie.Need-enum-told-3
-enum-told-3 c = search needs
-
 returns : tie.Need-returns
 unfolding differsInPrice
 returns c = rw (c .enum-told .given .1)
@@ -34,13 +25,5 @@ returns-4 c = rw (c .enum-told3 .given .1)
 
 pub differs-in-price-spec : {M : Type 1} → statement M
 differs-in-price-spec =
-    tie.close
-    (tie.spec
-    enum-told
-    enum-known-update
-    enum-told-2
-    enum-told-3
-    returns
-    returns-2
-    returns-3
-    returns-4)
+    tie.close (tie.spec enum-told (λ c. search needs) (λ c. search needs) (λ c. search needs) returns returns-2
+    returns-3 returns-4)

@@ -6,9 +6,6 @@ use borrow.Author.Needs.{needs}
 use Rattle.pass_segments.proofs.pass_segment.Statement.{statement}
 use Rattle.pass_segments.proofs.pass_segment.Tie as tie
 
-segment-points-requires : tie.Need-segment-points-requires
-segment-points-requires c κs = search needs
-
 complete-requires : tie.Need-complete-requires
 complete-requires c κs =
     let p = c .before .before .before .before .before in
@@ -37,15 +34,6 @@ execute-requires c κs =
       ),
     )
 
-same-length : tie.Need-same-length
-same-length c = search needs
-
-same-length-2 : tie.Need-same-length-2
-same-length-2 c = search needs
-
-same-length-3 : tie.Need-same-length-3
-same-length-3 c = search needs
-
 returns : tie.Need-returns
 returns c =
     let x = c .before in
@@ -59,12 +47,5 @@ returns c =
 
 pub pass-segment-spec : {M : Type 1} → statement M
 pass-segment-spec =
-    tie.close
-    (tie.spec
-    segment-points-requires
-    complete-requires
-    execute-requires
-    same-length
-    same-length-2
-    same-length-3
-    returns)
+    tie.close (tie.spec (λ c κs. search needs) complete-requires execute-requires (λ c. search needs)
+    (λ c. search needs) (λ c. search needs) returns)

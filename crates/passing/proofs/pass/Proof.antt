@@ -138,33 +138,8 @@ returns-2 c =
 
 pub pass-spec : {M : Type 1} → statement M
 pass-spec =
-    tie.close
-    (tie.spec
-    Inv-loop
-    μ-loop
-    (λ c κs. search needs)
-    (λ c. search needs)
-    loop-holds
-    slice-aggregate-segment-at
-    segment-at-requires
-    (λ c. search needs)
-    (λ c. search needs)
-    slice-read-if1
-    mul-pass-segment
-    mul-pass-segment-2
-    sub-pass-segment
-    part-pass-segment-start
-    (λ c. search needs)
-    slice-aggregate-pass-segment
-    pass-segment-requires
-    add-head
-    add-moves
-    add-used
-    loop-less
-    loop-again
-    same-length
-    same-length-2
-    returns
-    same-length-3
-    same-length-4
-    returns-2)
+    tie.close (tie.spec Inv-loop μ-loop (λ c κs. search needs) (λ c. search needs) loop-holds
+    slice-aggregate-segment-at segment-at-requires (λ c. search needs) (λ c. search needs) slice-read-if1
+    mul-pass-segment mul-pass-segment-2 sub-pass-segment part-pass-segment-start (λ c. search needs)
+    slice-aggregate-pass-segment pass-segment-requires add-head add-moves add-used loop-less loop-again same-length
+    same-length-2 returns same-length-3 same-length-4 returns-2)

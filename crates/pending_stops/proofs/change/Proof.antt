@@ -51,11 +51,4 @@ returns c =
 
 pub change-spec : {M : Type 1} → statement M
 change-spec =
-    tie.close
-    (tie.spec
-    slice-write-s
-    unlink-requires
-    write-entry-requires
-    link-requires
-    same-length
-    returns)
+    tie.close (tie.spec slice-write-s unlink-requires write-entry-requires link-requires same-length returns)

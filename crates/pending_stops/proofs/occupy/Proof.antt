@@ -90,16 +90,5 @@ returns c =
 
 pub occupy-spec : {M : Type 1} → statement M
 occupy-spec =
-    tie.close
-    (tie.spec
-    slice-read-count
-    slice-read-next
-    add-s
-    slice-write-s
-    add-s-2
-    slice-write-s-2
-    pop-requires
-    write-entry-requires
-    link-requires
-    same-length
-    returns)
+    tie.close (tie.spec slice-read-count slice-read-next add-s slice-write-s add-s-2 slice-write-s-2 pop-requires
+    write-entry-requires link-requires same-length returns)

@@ -56,13 +56,5 @@ returns c =
 
 pub vacate-spec : {M : Type 1} → statement M
 vacate-spec =
-    tie.close
-    (tie.spec
-    slice-read-count
-    sub-s
-    slice-write-s
-    unlink-requires
-    write-free-requires
-    push-requires
-    same-length
-    returns)
+    tie.close (tie.spec slice-read-count sub-s slice-write-s unlink-requires write-free-requires push-requires
+    same-length returns)

@@ -41,14 +41,5 @@ returns c = summed-all _ _ _ _ _ (c .loop-test .left) (c .before .loop .inv)
 
 pub total-on-spec : {M : Type 1} → statement M
 total-on-spec =
-    tie.close
-    (tie.spec
-    Inv-loop
-    μ-loop
-    loop-holds
-    quantity-on-requires
-    plus-requires
-    add-i
-    loop-less
-    loop-again
+    tie.close (tie.spec Inv-loop μ-loop loop-holds quantity-on-requires plus-requires add-i loop-less loop-again
     returns)

@@ -4,9 +4,6 @@ use borrow.Author.Needs.{needs}
 use Rattle.points.proofs.elect_both.Statement.{statement}
 use Rattle.points.proofs.elect_both.Tie as tie
 
-other-requires : tie.Need-other-requires
-other-requires c κs = search needs
-
 elect-on-requires : tie.Need-elect-on-requires
 elect-on-requires c κs =
     let (b, r, st, room) = c .before .before .before .before .pre in
@@ -25,12 +22,6 @@ elect-on-requires-2 c κs =
           (second-room _ _ _ _ _ _ (one .elect-on .ensures) _ st room),
     )
 
-same-length : tie.Need-same-length
-same-length c = search needs
-
-same-length-2 : tie.Need-same-length-2
-same-length-2 c = search needs
-
 returns : tie.Need-returns
 returns c =
     let two = c .before .before .before in
@@ -40,11 +31,5 @@ returns c =
 
 pub elect-both-spec : {M : Type 1} → statement M
 elect-both-spec =
-    tie.close
-    (tie.spec
-    other-requires
-    elect-on-requires
-    elect-on-requires-2
-    same-length
-    same-length-2
-    returns)
+    tie.close (tie.spec (λ c κs. search needs) elect-on-requires elect-on-requires-2 (λ c. search needs)
+    (λ c. search needs) returns)

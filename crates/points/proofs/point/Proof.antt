@@ -4,29 +4,14 @@ use borrow.Author.Needs.{needs}
 use Rattle.points.proofs.point.Statement.{statement}
 use Rattle.points.proofs.point.Tie as tie
 
-trail-both-requires : tie.Need-trail-both-requires
-trail-both-requires c κs = search needs
-
-same-length : tie.Need-same-length
-same-length c = search needs
-
 returns : tie.Need-returns
 returns c = rw (c .if1 .taken) (point-killed _ _ _ _ _ (c .before .before .before .trail-both .ensures))
-
-first-side-requires : tie.Need-first-side-requires
-first-side-requires c κs = search needs
 
 elect-both-requires : tie.Need-elect-both-requires
 elect-both-requires c κs =
     let t = c .before .before .before .before .before .before in
     let (b, r, st, room) = t .before .before .before .pre in
     (_, r, t .trail-both .ensures b r st .1, rw (c .before .first-side .ensures) (elected-room _ _ b _ _ room))
-
-same-length-2 : tie.Need-same-length-2
-same-length-2 c = search needs
-
-same-length-3 : tie.Need-same-length-3
-same-length-3 c = search needs
 
 returns-2 : tie.Need-returns-2
 returns-2 c =
@@ -39,13 +24,5 @@ returns-2 c =
 
 pub point-spec : {M : Type 1} → statement M
 point-spec =
-    tie.close
-    (tie.spec
-    trail-both-requires
-    same-length
-    returns
-    first-side-requires
-    elect-both-requires
-    same-length-2
-    same-length-3
-    returns-2)
+    tie.close (tie.spec (λ c κs. search needs) (λ c. search needs) returns (λ c κs. search needs) elect-both-requires
+    (λ c. search needs) (λ c. search needs) returns-2)

@@ -5,9 +5,6 @@ use borrow.Author.Needs.{needs}
 use Rattle.points.proofs.trail_both.Statement.{statement}
 use Rattle.points.proofs.trail_both.Tie as tie
 
-trail-requires : tie.Need-trail-requires
-trail-requires c κs = search needs
-
 trail-requires-2 : tie.Need-trail-requires-2
 trail-requires-2 c κs =
     let one = c .before .before .before in
@@ -21,9 +18,6 @@ add-result c =
     let (b, r, st) = one .before .before .before .pre in
     record { fits = omega (arith, moves-few _ _ (one .trail .ensures) _ (two .trail2 .ensures) b r st) }
 
-same-length : tie.Need-same-length
-same-length c = search needs
-
 returns : tie.Need-returns
 returns c =
     let two = c .before .before in
@@ -31,4 +25,4 @@ returns c =
 
 pub trail-both-spec : {M : Type 1} → statement M
 trail-both-spec =
-    tie.close (tie.spec trail-requires trail-requires-2 add-result same-length returns)
+    tie.close (tie.spec (λ c κs. search needs) trail-requires-2 add-result (λ c. search needs) returns)

@@ -82,24 +82,6 @@ returns c =
 
 pub walk-points-spec : {M : Type 1} → statement M
 walk-points-spec =
-    tie.close
-    (tie.spec
-    Inv-loop
-    μ-loop
-    shared-slice-read-t16
-    sub-t18
-    mul-t19
-    shared-slice-read-t21
-    (λ c κs. search needs)
-    loop-holds
-    mul-t24
-    shared-slice-read-t26
-    (λ c κs. search needs)
-    point-requires
-    add-moves
-    (λ c. search needs)
-    loop-less
-    loop-again
-    same-length
-    same-length-2
-    returns)
+    tie.close (tie.spec Inv-loop μ-loop shared-slice-read-t16 sub-t18 mul-t19 shared-slice-read-t21
+    (λ c κs. search needs) loop-holds mul-t24 shared-slice-read-t26 (λ c κs. search needs) point-requires add-moves
+    (λ c. search needs) loop-less loop-again same-length same-length-2 returns)

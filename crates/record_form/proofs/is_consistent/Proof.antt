@@ -24,14 +24,5 @@ returns-4 c = rw (← (c .before .before .inconsistency .ensures), c .enum-told4
 
 pub is-consistent-spec : {M : Type 1} → statement M
 is-consistent-spec =
-    tie.close
-    (tie.spec
-    (λ c κs. search needs)
-    (λ c. search needs)
-    (λ c. search needs)
-    (λ c. search needs)
-    (λ c. search needs)
-    returns
-    returns-2
-    returns-3
-    returns-4)
+    tie.close (tie.spec (λ c κs. search needs) (λ c. search needs) (λ c. search needs) (λ c. search needs)
+    (λ c. search needs) returns returns-2 returns-3 returns-4)

@@ -30,10 +30,4 @@ returns-3 c =
 
 pub group-of-spec : {M : Type 1} → statement M
 group-of-spec =
-    tie.close
-    (tie.spec
-    (λ c κs. search needs)
-    returns
-    (λ c κs. search needs)
-    returns-2
-    returns-3)
+    tie.close (tie.spec (λ c κs. search needs) returns (λ c κs. search needs) returns-2 returns-3)

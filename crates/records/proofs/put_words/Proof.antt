@@ -14,18 +14,7 @@ abbrev μ-loop : tie.MeasureT-loop
 
 pub put-words-spec : {M : Type 1} → statement M
 put-words-spec =
-    tie.close
-    (tie.spec
-    Inv-loop
-    μ-loop
-    (λ c. copied-none _ _ _)
-    (λ c. omega arith)
-    (λ c. omega arith)
-    (λ c. omega arith)
-    (λ c. omega arith)
-    (λ c. omega arith)
-    (λ c. omega arith)
-    (λ c. omega arith)
+    tie.close (tie.spec Inv-loop μ-loop (λ c. copied-none _ _ _) (λ c. omega arith) (λ c. omega arith)
+    (λ c. omega arith) (λ c. omega arith) (λ c. omega arith) (λ c. omega arith) (λ c. omega arith)
     (λ c. copied-more _ _ _ _ _ (c .before .before .loop .inv) (c .before .loop-test .taken))
-    (λ c. c .before .loop .inv .size)
-    (λ c. copied-all _ _ _ _ _ (c .before .loop .inv) (c .loop-test .left)))
+    (λ c. c .before .loop .inv .size) (λ c. copied-all _ _ _ _ _ (c .before .loop .inv) (c .loop-test .left)))

@@ -42,14 +42,5 @@ returns-4 c =
 
 pub calculate-trailing-stop-price-spec : {M : Type 1} → statement M
 calculate-trailing-stop-price-spec =
-    tie.close
-    (tie.spec
-    (λ c κs. search needs)
-    returns
-    (λ c κs. search needs)
-    (λ c. search needs)
-    (λ c. search needs)
-    returns-2
-    (λ c κs. search needs)
-    returns-3
-    returns-4)
+    tie.close (tie.spec (λ c κs. search needs) returns (λ c κs. search needs) (λ c. search needs) (λ c. search needs)
+    returns-2 (λ c κs. search needs) returns-3 returns-4)

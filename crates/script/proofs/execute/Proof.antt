@@ -66,17 +66,5 @@ returns c =
 
 pub execute-spec : {M : Type 1} → statement M
 execute-spec =
-    tie.close
-    (tie.spec
-    Inv-loop
-    μ-loop
-    loop-holds
-    mul-pending
-    index-1-pending
-    (λ c. search needs)
-    execute-one-requires
-    add-i
-    loop-less
-    loop-again
-    same-length
-    returns)
+    tie.close (tie.spec Inv-loop μ-loop loop-holds mul-pending index-1-pending (λ c. search needs)
+    execute-one-requires add-i loop-less loop-again same-length returns)

@@ -29,12 +29,5 @@ returns-3 c =
 
 pub execute-one-spec : {M : Type 1} → statement M
 execute-one-spec =
-    tie.close
-    (tie.spec
-    (λ c. search needs)
-    returns
-    returns-2
-    put-printed-requires
-    (λ c. search needs)
-    (λ c. search needs)
-    returns-3)
+    tie.close (tie.spec (λ c. search needs) returns returns-2 put-printed-requires (λ c. search needs)
+    (λ c. search needs) returns-3)

@@ -21,14 +21,5 @@ returns-2 c = λ q h. rw (c .prev-from .ensures) (sym (queued-first q h (c .befo
 
 pub segment-at-spec : {M : Type 1} → statement M
 segment-at-spec =
-    tie.close
-    (tie.spec
-    returns
-    (λ c. search needs)
-    shared-slice-copy-out-words
-    (λ c. search needs)
-    (λ c. search needs)
-    (λ c κs. search needs)
-    (λ c. search needs)
-    (λ c. search needs)
-    returns-2)
+    tie.close (tie.spec returns (λ c. search needs) shared-slice-copy-out-words (λ c. search needs)
+    (λ c. search needs) (λ c κs. search needs) (λ c. search needs) (λ c. search needs) returns-2)

@@ -15,9 +15,6 @@ list-moved-requires-2 c κs =
     let (b, r, st, room) = one .before .before .before .pre in
     (b, r, st, rw (one .list-moved .kept .1 .1 .1 .1 .0) (buys-room _ _ _ _ _ (one .list-moved .ensures) _ st room))
 
-same-length : tie.Need-same-length
-same-length c = search needs
-
 returns : tie.Need-returns
 returns c =
     let two = c .before in
@@ -25,4 +22,4 @@ returns c =
 
 pub list-moves-spec : {M : Type 1} → statement M
 list-moves-spec =
-    tie.close (tie.spec list-moved-requires list-moved-requires-2 same-length returns)
+    tie.close (tie.spec list-moved-requires list-moved-requires-2 (λ c. search needs) returns)

@@ -7,16 +7,10 @@ use borrow.Author.Needs.{needs}
 use Rattle.segments.proofs.segment_listed.Statement.{statement}
 use Rattle.segments.proofs.segment_listed.Tie as tie
 
-falls-to-requires : tie.Need-falls-to-requires
-falls-to-requires c κs = search needs
-
 list-moves-requires : tie.Need-list-moves-requires
 list-moves-requires c κs =
     let (b, r, st, room, more) = c .before .before .before .before .before .before .pre in
     (b, r, st, first-moves _ b _ more)
-
-sells-first-requires : tie.Need-sells-first-requires
-sells-first-requires c κs = search needs
 
 point-requires : tie.Need-point-requires
 point-requires c κs =
@@ -24,23 +18,8 @@ point-requires c κs =
     c .before .before .before .before .before .before .before .before .before .before .before .pre in
     (b, r, st, omega (arith, room))
 
-second-point-requires : tie.Need-second-point-requires
-second-point-requires c κs = search needs
-
-enum-known-end : tie.Need-enum-known-end
-enum-known-end c = search needs
-
 enum-told : tie.Need-enum-told
 enum-told c = search needs
-
-same-length : tie.Need-same-length
-same-length c = search needs
-
-same-length-2 : tie.Need-same-length-2
-same-length-2 c = search needs
-
-same-length-3 : tie.Need-same-length-3
-same-length-3 c = search needs
 
 returns : tie.Need-returns
 returns c =
@@ -64,9 +43,6 @@ list-moves-requires-2 c κs =
           (second-moves _ _ _ _ _ _ _ (l .list-moves .ensures) _ st more),
     )
 
-sells-first-requires-2 : tie.Need-sells-first-requires-2
-sells-first-requires-2 c κs = search needs
-
 point-requires-2 : tie.Need-point-requires-2
 point-requires-2 c κs =
     let p = c .before .before .before .before .before .before .before .before .before .before .before .before .before .before in
@@ -87,12 +63,6 @@ add-t36 c =
     p .before .before .before .before .before .before .before .before .before .before .before .before .pre in
     let one = point-few _ _ _ _ _ _ _ _ (p .point .ensures) st in
     record { fits = omega (arith, one, point-few _ _ _ _ _ _ _ _ (t .point2 .ensures) (p .point .ensures b r st .3)) }
-
-same-length-4 : tie.Need-same-length-4
-same-length-4 c = search needs
-
-same-length-5 : tie.Need-same-length-5
-same-length-5 c = search needs
 
 same-length-6 : tie.Need-same-length-6
 same-length-6 c =
@@ -119,24 +89,7 @@ returns-2 c =
 
 pub segment-listed-spec : {M : Type 1} → statement M
 segment-listed-spec =
-    tie.close
-    (tie.spec
-    falls-to-requires
-    list-moves-requires
-    sells-first-requires
-    point-requires
-    second-point-requires
-    enum-known-end
-    enum-told
-    same-length
-    same-length-2
-    same-length-3
-    returns
-    list-moves-requires-2
-    sells-first-requires-2
-    point-requires-2
-    add-t36
-    same-length-4
-    same-length-5
-    same-length-6
-    returns-2)
+    tie.close (tie.spec (λ c κs. search needs) list-moves-requires (λ c κs. search needs) point-requires
+    (λ c κs. search needs) (λ c. search needs) enum-told (λ c. search needs) (λ c. search needs) (λ c. search needs)
+    returns list-moves-requires-2 (λ c κs. search needs) point-requires-2 add-t36 (λ c. search needs)
+    (λ c. search needs) same-length-6 returns-2)

@@ -7,29 +7,8 @@ use borrow.Author.Needs.{needs}
 use Rattle.segments.proofs.segment_points.Statement.{statement}
 use Rattle.segments.proofs.segment_points.Tie as tie
 
-falls-to-requires : tie.Need-falls-to-requires
-falls-to-requires c κs = search needs
-
-sells-first-requires : tie.Need-sells-first-requires
-sells-first-requires c κs = search needs
-
-point-requires : tie.Need-point-requires
-point-requires c κs = search needs
-
-second-point-requires : tie.Need-second-point-requires
-second-point-requires c κs = search needs
-
-enum-known-end : tie.Need-enum-known-end
-enum-known-end c = search needs
-
 enum-told : tie.Need-enum-told
 enum-told c = search needs
-
-same-length : tie.Need-same-length
-same-length c = search needs
-
-same-length-2 : tie.Need-same-length-2
-same-length-2 c = search needs
 
 returns : tie.Need-returns
 returns c =
@@ -39,9 +18,6 @@ returns c =
     segment-one _ _ _ _ _ _ _
     (rw (f .sells-first .ensures, f .before .before .falls-to .ensures) at (p .point .ensures))
     (sym (c .enum-told .given .1) ∙ q .second-point .ensures)
-
-sells-first-requires-2 : tie.Need-sells-first-requires-2
-sells-first-requires-2 c κs = search needs
 
 point-requires-2 : tie.Need-point-requires-2
 point-requires-2 c κs =
@@ -62,12 +38,6 @@ add-t26 c =
     let one = point-few _ _ _ _ _ _ _ _ (p .point .ensures) st in
     record { fits = omega (arith, one, point-few _ _ _ _ _ _ _ _ (t .point2 .ensures) (p .point .ensures b r st .3)) }
 
-same-length-3 : tie.Need-same-length-3
-same-length-3 c = search needs
-
-same-length-4 : tie.Need-same-length-4
-same-length-4 c = search needs
-
 returns-2 : tie.Need-returns-2
 returns-2 c =
     let t = c .before .before .before .before .before in
@@ -83,20 +53,6 @@ returns-2 c =
 
 pub segment-points-spec : {M : Type 1} → statement M
 segment-points-spec =
-    tie.close
-    (tie.spec
-    falls-to-requires
-    sells-first-requires
-    point-requires
-    second-point-requires
-    enum-known-end
-    enum-told
-    same-length
-    same-length-2
-    returns
-    sells-first-requires-2
-    point-requires-2
-    add-t26
-    same-length-3
-    same-length-4
-    returns-2)
+    tie.close (tie.spec (λ c κs. search needs) (λ c κs. search needs) (λ c κs. search needs) (λ c κs. search needs)
+    (λ c. search needs) enum-told (λ c. search needs) (λ c. search needs) returns (λ c κs. search needs)
+    point-requires-2 add-t26 (λ c. search needs) (λ c. search needs) returns-2)

@@ -27,15 +27,9 @@ add-count-2 c = omega arith
 add-count-3 : tie.Need-add-count-3 Inv-loop μ-loop
 add-count-3 c = omega arith
 
-initial-requires : tie.Need-initial-requires Inv-loop μ-loop
-initial-requires c κs = search needs
-
 loop-holds : tie.Need-loop-holds Inv-loop μ-loop
 unfolding blocks
 loop-holds c = (omega arith, c .initial .ensures)
-
-block-requires : tie.Need-block-requires Inv-loop μ-loop
-block-requires c κs = search needs
 
 add-i : tie.Need-add-i Inv-loop μ-loop
 add-i c = omega arith
@@ -57,17 +51,5 @@ returns c =
 
 pub hash-spec : {M : Type 1} → statement M
 hash-spec =
-    tie.close
-    (tie.spec
-    Inv-loop
-    μ-loop
-    add-count
-    add-count-2
-    add-count-3
-    initial-requires
-    loop-holds
-    block-requires
-    add-i
-    loop-less
-    loop-again
-    returns)
+    tie.close (tie.spec Inv-loop μ-loop add-count add-count-2 add-count-3 (λ c κs. search needs) loop-holds
+    (λ c κs. search needs) add-i loop-less loop-again returns)

@@ -22,12 +22,6 @@ loop-holds c = (omega arith, λ q e. e)
 mul-step : tie.Need-mul-step Inv-loop μ-loop
 mul-step c = omega arith
 
-element-copy-out-step : tie.Need-element-copy-out-step Inv-loop μ-loop
-element-copy-out-step c = search needs
-
-step-requires : tie.Need-step-requires Inv-loop μ-loop
-step-requires c κs = search needs
-
 add-t : tie.Need-add-t Inv-loop μ-loop
 add-t c = omega arith
 
@@ -49,15 +43,5 @@ returns c =
 
 pub steps-to-spec : {M : Type 1} → statement M
 steps-to-spec =
-    tie.close
-    (tie.spec
-    Inv-loop
-    μ-loop
-    loop-holds
-    mul-step
-    element-copy-out-step
-    step-requires
-    add-t
-    loop-less
-    loop-again
-    returns)
+    tie.close (tie.spec Inv-loop μ-loop loop-holds mul-step (λ c. search needs) (λ c κs. search needs) add-t loop-less
+    loop-again returns)

@@ -11,10 +11,4 @@ returns c = cc (length-octet (c .args .n) (56 - 8 * c .args .j) (omega arith))
 
 pub length-octet-spec : {M : Type 1} → statement M
 length-octet-spec =
-    tie.close
-    (tie.spec
-    (λ c. search needs)
-    (λ c. search needs)
-    (λ c. search needs)
-    (λ c. search needs)
-    returns)
+    tie.close (tie.spec (λ c. search needs) (λ c. search needs) (λ c. search needs) (λ c. search needs) returns)

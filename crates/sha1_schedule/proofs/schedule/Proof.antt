@@ -22,9 +22,6 @@ loop-holds : tie.Need-loop-holds Inv-loop μ-loop
 unfolding schedule
 loop-holds c = (omega arith, refl, refl)
 
-next-word-requires : tie.Need-next-word-requires Inv-loop μ-loop
-next-word-requires c κs = search needs
-
 mul-w : tie.Need-mul-w Inv-loop μ-loop
 mul-w c = omega arith
 
@@ -52,15 +49,5 @@ returns c =
 
 pub schedule-spec : {M : Type 1} → statement M
 schedule-spec =
-    tie.close
-    (tie.spec
-    Inv-loop
-    μ-loop
-    loop-holds
-    next-word-requires
-    mul-w
-    array-write-w
-    add-t
-    loop-less
-    loop-again
-    returns)
+    tie.close (tie.spec Inv-loop μ-loop loop-holds (λ c κs. search needs) mul-w array-write-w add-t loop-less
+    loop-again returns)

@@ -11,12 +11,6 @@ use borrow.Author.Needs.{needs}
 use Rattle.stop_run.proofs.run_stop_triggers.Statement.{statement}
 use Rattle.stop_run.proofs.run_stop_triggers.Tie as tie
 
-ask-pass-requires : tie.Need-ask-pass-requires
-ask-pass-requires c κs = search needs
-
-enum-known-verdict : tie.Need-enum-known-verdict
-enum-known-verdict c = search needs
-
 enum-told : tie.Need-enum-told
 enum-told c = search needs
 
@@ -25,18 +19,6 @@ slice-read-next-segment c =
     let e = c .before in
     let h = all-yes _ _ (e .enum-told .given .1) (e .before .before .ask-pass .ensures) in
     omega (arith, wellFormed-room _ (pass-formed _ _ _ (sym h)) .room)
-
-next-segment-requires : tie.Need-next-segment-requires
-next-segment-requires c κs = search needs
-
-enum-known-next : tie.Need-enum-known-next
-enum-known-next c = search needs
-
-enum-told-2 : tie.Need-enum-told-2
-enum-told-2 c = search needs
-
-same-length : tie.Need-same-length
-same-length c = search needs
 
 returns : tie.Need-returns
 unfolding toldPass toldNext
@@ -52,23 +34,11 @@ pass-over-requires c κs =
     let e = n .before .before in
     sym (all-yes _ _ (e .enum-told .given .1) (e .before .before .ask-pass .ensures))
 
-closed-requires : tie.Need-closed-requires
-closed-requires c κs = search needs
-
-same-length-2 : tie.Need-same-length-2
-same-length-2 c = search needs
-
 returns-2 : tie.Need-returns-2
 unfolding toldPass
 returns-2 c =
     let a = c .before .before .before in
     run-refused _ _ _ _ _ _ _ (one-no _ _ _ (c .before .verdict .given .1) (a .ask-pass .ensures))
-
-same-length-3 : tie.Need-same-length-3
-same-length-3 c = search needs
-
-same-length-4 : tie.Need-same-length-4
-same-length-4 c = search needs
 
 returns-3 : tie.Need-returns-3
 unfolding toldPass toldNext
@@ -83,21 +53,6 @@ returns-3 c =
 
 pub run-stop-triggers-spec : {M : Type 1} → statement M
 run-stop-triggers-spec =
-    tie.close
-    (tie.spec
-    ask-pass-requires
-    enum-known-verdict
-    enum-told
-    slice-read-next-segment
-    next-segment-requires
-    enum-known-next
-    enum-told-2
-    same-length
-    returns
-    pass-over-requires
-    closed-requires
-    same-length-2
-    returns-2
-    same-length-3
-    same-length-4
-    returns-3)
+    tie.close (tie.spec (λ c κs. search needs) (λ c. search needs) enum-told slice-read-next-segment
+    (λ c κs. search needs) (λ c. search needs) (λ c. search needs) (λ c. search needs) returns pass-over-requires
+    (λ c κs. search needs) (λ c. search needs) returns-2 (λ c. search needs) (λ c. search needs) returns-3)

@@ -70,16 +70,5 @@ returns-3 c =
 
 pub cancel-pending-stop-spec : {M : Type 1} → statement M
 cancel-pending-stop-spec =
-    tie.close
-    (tie.spec
-    (λ c κs. search needs)
-    (λ c. search needs)
-    returns
-    slice-read-n
-    find-id-requires
-    (λ c. search needs)
-    returns-2
-    entry-at-requires
-    vacate-requires
-    (λ c. search needs)
-    returns-3)
+    tie.close (tie.spec (λ c κs. search needs) (λ c. search needs) returns slice-read-n find-id-requires
+    (λ c. search needs) returns-2 entry-at-requires vacate-requires (λ c. search needs) returns-3)

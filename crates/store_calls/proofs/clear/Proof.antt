@@ -9,12 +9,6 @@ use borrow.Author.Needs.{needs}
 use Rattle.store_calls.proofs.clear.Statement.{statement}
 use Rattle.store_calls.proofs.clear.Tie as tie
 
-well-formed-requires : tie.Need-well-formed-requires
-well-formed-requires c κs = search needs
-
-same-length : tie.Need-same-length
-same-length c = search needs
-
 returns : tie.Need-returns
 unfolding toldLayout
 returns c = clear-unformed _ _ (sym (c .before .well-formed .ensures) ∙ not-true _ (c .if1 .taken))
@@ -37,12 +31,6 @@ lay-out-requires c κs =
     let e = sym (b .before .well-formed .ensures) ∙ not-false _ (b .if1 .left) in
     (some-records _ e, wellFormed-room _ e)
 
-closed-requires : tie.Need-closed-requires
-closed-requires c κs = search needs
-
-same-length-2 : tie.Need-same-length-2
-same-length-2 c = search needs
-
 returns-2 : tie.Need-returns-2
 unfolding toldLayout
 returns-2 c =
@@ -53,14 +41,5 @@ returns-2 c =
 
 pub clear-spec : {M : Type 1} → statement M
 clear-spec =
-    tie.close
-    (tie.spec
-    well-formed-requires
-    same-length
-    returns
-    slice-read-n
-    slice-read-tick
-    lay-out-requires
-    closed-requires
-    same-length-2
-    returns-2)
+    tie.close (tie.spec (λ c κs. search needs) (λ c. search needs) returns slice-read-n slice-read-tick
+    lay-out-requires (λ c κs. search needs) (λ c. search needs) returns-2)

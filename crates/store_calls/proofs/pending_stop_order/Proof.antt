@@ -47,12 +47,5 @@ returns-3 c =
 
 pub pending-stop-order-spec : {M : Type 1} → statement M
 pending-stop-order-spec =
-    tie.close
-    (tie.spec
-    (λ c κs. search needs)
-    returns
-    shared-slice-read-n
-    find-id-requires
-    returns-2
-    entry-at-requires
-    returns-3)
+    tie.close (tie.spec (λ c κs. search needs) returns shared-slice-read-n find-id-requires returns-2
+    entry-at-requires returns-3)

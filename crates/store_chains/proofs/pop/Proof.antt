@@ -31,12 +31,5 @@ returns c =
 
 pub pop-spec : {M : Type 1} → statement M
 pop-spec =
-    tie.close
-    (tie.spec
-    (λ c. search needs)
-    cell-requires
-    mul-next
-    slice-read-next
-    (λ c. search needs)
-    (λ c. search needs)
-    returns)
+    tie.close (tie.spec (λ c. search needs) cell-requires mul-next slice-read-next (λ c. search needs)
+    (λ c. search needs) returns)

@@ -24,10 +24,4 @@ returns c =
 
 pub put-in-spec : {M : Type 1} → statement M
 put-in-spec =
-    tie.close
-    (tie.spec
-    (λ c κs. search needs)
-    (λ c κs. search needs)
-    link-in-requires
-    (λ c. search needs)
-    returns)
+    tie.close (tie.spec (λ c κs. search needs) (λ c κs. search needs) link-in-requires (λ c. search needs) returns)

@@ -28,10 +28,4 @@ returns c =
 
 pub take-out-spec : {M : Type 1} → statement M
 take-out-spec =
-    tie.close
-    (tie.spec
-    (λ c κs. search needs)
-    (λ c κs. search needs)
-    link-out-requires
-    (λ c. search needs)
-    returns)
+    tie.close (tie.spec (λ c κs. search needs) (λ c κs. search needs) link-out-requires (λ c. search needs) returns)

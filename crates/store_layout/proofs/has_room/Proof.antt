@@ -15,10 +15,4 @@ returns-3 c = rw (le-leb 1 _ (c .before .if1 .left), le-leb _ _ (c .if2 .left))
 
 pub has-room-spec : {M : Type 1} → statement M
 has-room-spec =
-    tie.close
-    (tie.spec
-    returns
-    returns-2
-    (λ c. search needs)
-    (λ c. search needs)
-    returns-3)
+    tie.close (tie.spec returns returns-2 (λ c. search needs) (λ c. search needs) returns-3)

@@ -17,9 +17,6 @@ abbrev μ-loop : tie.MeasureT-loop
 empty-header-requires : tie.Need-empty-header-requires Inv-loop μ-loop
 empty-header-requires c κs = c .before .before .pre .0
 
-slice-aggregate-put-words : tie.Need-slice-aggregate-put-words Inv-loop μ-loop
-slice-aggregate-put-words c = search needs
-
 put-words-requires : tie.Need-put-words-requires Inv-loop μ-loop
 put-words-requires c κs =
     let h = c .before in
@@ -69,18 +66,5 @@ returns c =
 
 pub lay-out-spec : {M : Type 1} → statement M
 lay-out-spec =
-    tie.close
-    (tie.spec
-    Inv-loop
-    μ-loop
-    empty-header-requires
-    slice-aggregate-put-words
-    put-words-requires
-    loop-holds
-    next-free-requires
-    write-free-requires
-    add-i
-    loop-less
-    loop-again
-    same-length
-    returns)
+    tie.close (tie.spec Inv-loop μ-loop empty-header-requires (λ c. search needs) put-words-requires loop-holds
+    next-free-requires write-free-requires add-i loop-less loop-again same-length returns)

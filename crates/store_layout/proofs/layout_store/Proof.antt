@@ -24,10 +24,4 @@ returns-2 c =
 
 pub layout-store-spec : {M : Type 1} → statement M
 layout-store-spec =
-    tie.close
-    (tie.spec
-    (λ c κs. search needs)
-    returns
-    lay-out-requires
-    (λ c. search needs)
-    returns-2)
+    tie.close (tie.spec (λ c κs. search needs) returns lay-out-requires (λ c. search needs) returns-2)

@@ -42,15 +42,5 @@ returns-2 c =
 
 pub find-id-spec : {M : Type 1} → statement M
 find-id-spec =
-    tie.close
-    (tie.spec
-    (λ c κs. search needs)
-    (λ c. search needs)
-    shared-slice-read-sell
-    find-from-requires
-    returns
-    (λ c κs. search needs)
-    (λ c. search needs)
-    shared-slice-read-buy
-    find-from-requires-2
-    returns-2)
+    tie.close (tie.spec (λ c κs. search needs) (λ c. search needs) shared-slice-read-sell find-from-requires returns
+    (λ c κs. search needs) (λ c. search needs) shared-slice-read-buy find-from-requires-2 returns-2)

@@ -17,10 +17,4 @@ returns-2 c = protection-none _ _ (ap toldNew (sym (c .enum-told .given .1)) ∙
 
 pub protection-of-spec : {M : Type 1} → statement M
 protection-of-spec =
-    tie.close
-    (tie.spec
-    (λ c κs. search needs)
-    (λ c. search needs)
-    (λ c. search needs)
-    returns
-    returns-2)
+    tie.close (tie.spec (λ c κs. search needs) (λ c. search needs) (λ c. search needs) returns returns-2)

@@ -10,10 +10,4 @@ returns c = rw (c .before .before .kind-of .ensures)
 
 pub id-of-spec : {M : Type 1} → statement M
 id-of-spec =
-    tie.close
-    (tie.spec
-    (λ c. search needs)
-    (λ c κs. search needs)
-    (λ c. search needs)
-    (λ c. search needs)
-    returns)
+    tie.close (tie.spec (λ c. search needs) (λ c κs. search needs) (λ c. search needs) (λ c. search needs) returns)

@@ -19,11 +19,5 @@ returns-2 c =
 
 pub ends-in-order-spec : {M : Type 1} → statement M
 ends-in-order-spec =
-    tie.close
-    (tie.spec
-    (λ c. search needs)
-    (λ c. search needs)
-    returns
-    rank-of-requires
-    (λ c κs. search needs)
+    tie.close (tie.spec (λ c. search needs) (λ c. search needs) returns rank-of-requires (λ c κs. search needs)
     returns-2)

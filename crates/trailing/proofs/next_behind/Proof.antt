@@ -26,12 +26,5 @@ returns-3 c =
 
 pub next-behind-spec : {M : Type 1} → statement M
 next-behind-spec =
-    tie.close
-    (tie.spec
-    (λ c. search needs)
-    (λ c. search needs)
-    returns
-    terms-at-requires
-    (λ c κs. search needs)
-    returns-2
-    returns-3)
+    tie.close (tie.spec (λ c. search needs) (λ c. search needs) returns terms-at-requires (λ c κs. search needs)
+    returns-2 returns-3)

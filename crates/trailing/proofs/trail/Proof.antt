@@ -60,16 +60,5 @@ returns-3 c =
 
 pub trail-spec : {M : Type 1} → statement M
 trail-spec =
-    tie.close
-    (tie.spec
-    (λ c κs. search needs)
-    next-behind-requires
-    (λ c. search needs)
-    returns
-    (λ c κs. search needs)
-    resort-requires
-    (λ c. search needs)
-    returns-2
-    resort-requires-2
-    (λ c. search needs)
-    returns-3)
+    tie.close (tie.spec (λ c κs. search needs) next-behind-requires (λ c. search needs) returns (λ c κs. search needs)
+    resort-requires (λ c. search needs) returns-2 resort-requires-2 (λ c. search needs) returns-3)

@@ -108,22 +108,6 @@ loop-again c =
 
 pub trail-records-spec : {M : Type 1} → statement M
 trail-records-spec =
-    tie.close
-    (tie.spec
-    Inv-loop
-    μ-loop
-    (λ c κs. search needs)
-    (λ c κs. search needs)
-    loop-holds
-    next-behind-requires
-    ends-in-order-requires
-    same-length
-    returns
-    trail-record-requires
-    add-moved
-    rank-of-requires
-    (λ c κs. search needs)
-    cell-requires
-    sub-left
-    loop-less
-    loop-again)
+    tie.close (tie.spec Inv-loop μ-loop (λ c κs. search needs) (λ c κs. search needs) loop-holds next-behind-requires
+    ends-in-order-requires same-length returns trail-record-requires add-moved rank-of-requires (λ c κs. search needs)
+    cell-requires sub-left loop-less loop-again)

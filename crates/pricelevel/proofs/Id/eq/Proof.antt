@@ -32,10 +32,4 @@ returns-3 c =
 
 pub eq-spec : {M : Type 1} → statement M
 eq-spec =
-    tie.close
-    (tie.spec
-    (λ c κs. search needs)
-    (λ c κs. search needs)
-    returns
-    returns-2
-    returns-3)
+    tie.close (tie.spec (λ c κs. search needs) (λ c κs. search needs) returns returns-2 returns-3)

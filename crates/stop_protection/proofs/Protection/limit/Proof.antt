@@ -14,10 +14,4 @@ returns-2 c = cc
 
 pub limit-spec : {M : Type 1} → statement M
 limit-spec =
-    tie.close
-    (tie.spec
-    (λ c. search needs)
-    (λ c. search needs)
-    returns
-    (λ c κs. search needs)
-    returns-2)
+    tie.close (tie.spec (λ c. search needs) (λ c. search needs) returns (λ c κs. search needs) returns-2)

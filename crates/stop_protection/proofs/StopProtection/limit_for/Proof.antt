@@ -24,13 +24,5 @@ returns-4 c = rw (c .before .enum-told2 .given .1) (omega arith)
 
 pub limit-for-spec : {M : Type 1} → statement M
 limit-for-spec =
-    tie.close
-    (tie.spec
-    (λ c. search needs)
-    returns
-    (λ c. search needs)
-    (λ c. search needs)
-    returns-2
-    (λ c. search needs)
-    returns-3
-    returns-4)
+    tie.close (tie.spec (λ c. search needs) returns (λ c. search needs) (λ c. search needs) returns-2
+    (λ c. search needs) returns-3 returns-4)

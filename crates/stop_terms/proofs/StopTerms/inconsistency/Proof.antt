@@ -43,12 +43,4 @@ returns-5 c = rw (
 
 pub inconsistency-spec : {M : Type 1} → statement M
 inconsistency-spec =
-    tie.close
-    (tie.spec
-    returns
-    (λ c. search needs)
-    returns-2
-    (λ c. search needs)
-    returns-3
-    returns-4
-    returns-5)
+    tie.close (tie.spec returns (λ c. search needs) returns-2 (λ c. search needs) returns-3 returns-4 returns-5)

@@ -11,10 +11,5 @@ returns c = cc
 
 pub new-v5-spec : {M : Type 1} → statement M
 new-v5-spec =
-    tie.close
-    (tie.spec
-    (λ c κs. search needs)
-    (λ c. search needs)
-    (λ c κs. search needs)
-    (λ c κs. search needs)
+    tie.close (tie.spec (λ c κs. search needs) (λ c. search needs) (λ c κs. search needs) (λ c κs. search needs)
     returns)
