@@ -41,7 +41,13 @@ fn pass_words(
         ≡ passCall settings (now (script .entry)) prints (now (s .entry)) room .elected ⌝ }
 {
     let k = least(room, words.len());
-    let answer = evaluate_pass::evaluate_pending_stops(s, settings, script, prints, &mut words[..k]);
+    let answer = evaluate_pass::evaluate_pending_stops(
+        s,
+        settings,
+        script,
+        prints,
+        &mut words[..k],
+    );
     PassRun {
         answer: answer,
         count: pass_count(answer),
