@@ -81,12 +81,7 @@ segmentCall s prints w elected moved =
     let o : Evaluated = segment (s .kill) prints (bookOf w) in
     decide (firstNo (segmentQuestions w elected moved))
     (λ k. record { answer = refused k; words = w; elected = []; moved = [] })
-    (record {
-      answer = accepted (countsOf o);
-      words = storedBook (o .book) w;
-      elected = electedEntries s o;
-      moved = o .moved;
-    })
+    (record { answer = accepted (countsOf o); words = storedBook (o .book) w; elected = electedEntries s o; moved = o .moved })
 
 ------------------------------------------------------------------------
 -- Walk

@@ -33,11 +33,7 @@ scriptPrev script = cond (eqb (getD script 1 0) 1) (last.At (record { 0 = getD s
 unfoldable pub scriptSegment : List ℕ → List PrintSegment
 scriptSegment script =
     cond (eqb (getD script 0 0) 1)
-    (record {
-      prev = scriptPrev script;
-      first = record { 0 = getD script 3 0 };
-      last = record { 0 = getD script 4 0 };
-    } ∷ []) []
+    (record { prev = scriptPrev script; first = record { 0 = getD script 3 0 }; last = record { 0 = getD script 4 0 } } ∷ []) []
 
 -- what the elected of a segment execute: the segments that they add, and the entries that they use
 pub record Executed : Type 0 where

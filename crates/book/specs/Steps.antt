@@ -25,12 +25,7 @@ trailedSlot side price vacant = vacant
 trailedSlot side price (held t) = held (cond (isSide side (sideOf t)) (trailed price t) t)
 
 unfoldable pub trailedOn : Side → Price → Book → Book
-trailedOn side price b = record {
-  next = b .next;
-  tick = b .tick;
-  slots = map (trailedSlot side price) (b .slots);
-  free = b .free;
-}
+trailedOn side price b = record { next = b .next; tick = b .tick; slots = map (trailedSlot side price) (b .slots); free = b .free }
 
 ------------------------------------------------------------------------
 -- The elected of a side leave

@@ -230,10 +230,7 @@ unfoldable pub changeFound : OrderUpdate → LastPrice → Pending → List ℕ 
 changeFound update trade p w =
     decide (firstNo (changeQuestions update trade (p .entry) (bookOf w)))
     (λ k. record { answer = refused k; words = w })
-    (record {
-      answer = accepted (changedEntry update (p .entry) (bookOf w));
-      words = storedBook (changed update p (bookOf w)) w;
-    })
+    (record { answer = accepted (changedEntry update (p .entry) (bookOf w)); words = storedBook (changed update p (bookOf w)) w })
 
 unfoldable pub updateFound : OrderUpdate → LastPrice → Option Pending → List ℕ → StoreOutcome StopEntry
 updateFound update trade none w = record { answer = refused 12; words = w }

@@ -43,8 +43,7 @@ header b =
 unfoldable pub dataWords : Slot → List ℕ
 dataWords vacant = replicate dataLength 0
 dataWords (held t) =
-    kindNumber (t .id .kind) ∷ t .id .high ∷ t .id .low ∷ sideNumber (sideOf t) ∷ stopOf t ∷ watermarkOf t
-    ∷ t .terms .trail
+    kindNumber (t .id .kind) ∷ t .id .high ∷ t .id .low ∷ sideNumber (sideOf t) ∷ stopOf t ∷ watermarkOf t ∷ t .terms .trail
     ∷ t .quantity .0 ∷ seqOf t ∷ []
 
 -- the two links: the free chain goes through next by stop

@@ -19,11 +19,7 @@ use Rattle.book.specs.declared.Settings.{Settings}
 -- the segment over a run's ends; a run of no prices has none, and is refused with the walk's number
 unfoldable pub endsCall : Settings → LastPrice → List Price → List ℕ → ℕ → ℕ → SegmentOutcome
 endsCall s prev [] w elected moved = record { answer = refused 16; words = w; elected = []; moved = [] }
-endsCall s prev (p ∷ ps) w elected moved = segmentCall s (record {
-  prev = prev;
-  first = p;
-  last = lastOf p ps;
-}) w elected moved
+endsCall s prev (p ∷ ps) w elected moved = segmentCall s (record { prev = prev; first = p; last = lastOf p ps }) w elected moved
 
 -- a run that never falls (Sell) or never rises (Buy)
 abbrev pub Goes : Side → List Price → Type 0
@@ -49,8 +45,7 @@ pub record Comparable (prices : List Price) (ends run : List ℕ) (elected moved
 
 -- what it says of two answers, two stores and two lists of the elected after the calls: neither is refused; both answer
 -- the same number elected; the entries listed are alike, entry by entry; and the two stores are equal in every word
-pub record Decided (ends run : Answer Counts) (endsStore runStore : List ℕ)
-    (endsListed runListed : List (List ℕ)) : Type 0 where
+pub record Decided (ends run : Answer Counts) (endsStore runStore : List ℕ) (endsListed runListed : List (List ℕ)) : Type 0 where
   pub elected : ℕ
   pub moves : ℕ
   pub steps : ℕ

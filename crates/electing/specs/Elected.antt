@@ -33,8 +33,7 @@ unelected price w (i ∷ l) = cond (electedAt (entryAt w i .terms) price) (unele
 
 -- the chains of a book, but for the watermark chain of a side, which the elected have left
 abbrev pub droppedChains : Side → Price → Book → StoreChain → List ℕ
-droppedChains side price b =
-    upd (Ordered (ByWatermark side)) (chainIndices (ByWatermark side) (takenOn side price b)) (chainsOf b)
+droppedChains side price b = upd (Ordered (ByWatermark side)) (chainIndices (ByWatermark side) (takenOn side price b)) (chainsOf b)
 
 -- the words of a store with these chains: the data of book b, this count, and then r
 pub record Dropped (side : Side) (price : Price) (n : ℕ) (w : List ℕ) (count : ℕ) (b : Book) (r : List ℕ) : Type 0 where

@@ -1,5 +1,5 @@
-pub mod Beginning
-pub mod Counting
+pub mod FirstBytes
+pub mod WordCounts
 pub mod Split
 pub mod Walked
 pub mod Words

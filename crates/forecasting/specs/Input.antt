@@ -15,8 +15,7 @@ use Rattle.stop_protection.specs.declared.Protection.the-variants.{None}
 
 -- four bytes from place p on as a number, the lowest first
 unfoldable pub fourAt : List ℕ → ℕ → ℕ
-fourAt bytes p = getD bytes p 0 + 256 *
-    (getD bytes (p + 1) 0 + 256 * (getD bytes (p + 2) 0 + 256 * getD bytes (p + 3) 0))
+fourAt bytes p = getD bytes p 0 + 256 * (getD bytes (p + 1) 0 + 256 * (getD bytes (p + 2) 0 + 256 * getD bytes (p + 3) 0))
 
 -- a word is eight bytes, the lowest first; word i from 0
 unfoldable pub wordAt : List ℕ → ℕ → ℕ

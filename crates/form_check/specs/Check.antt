@@ -75,8 +75,7 @@ sideFormed side w n = chainFormed (Ordered (ByStop side)) w n && chainFormed (Or
 -- the count is right, and so are the five chains
 unfoldable pub chainsFormed : List ℕ → ℕ → Bool
 chainsFormed w n =
-    eqb (getD w 1 0) (pendingCount (slotsAt w 1 n)) &&
-    (sideFormed Sell w n && (sideFormed Buy w n && chainFormed Free w n))
+    eqb (getD w 1 0) (pendingCount (slotsAt w 1 n)) && (sideFormed Sell w n && (sideFormed Buy w n && chainFormed Free w n))
 
 ------------------------------------------------------------------------
 -- All of it
@@ -87,5 +86,4 @@ formed w =
     && (leb 1 (getD w 0 0)
     && (leb (getD w 0 0) mostRecords
     && (leb (storeLength (getD w 0 0)) (length w)
-    && (every (recordFormed w)
-    (rising 1 (getD w 0 0)) && (chainsFormed w (getD w 0 0) && allDiffer (slotsAt w 1 (getD w 0 0)))))))
+    && (every (recordFormed w) (rising 1 (getD w 0 0)) && (chainsFormed w (getD w 0 0) && allDiffer (slotsAt w 1 (getD w 0 0)))))))

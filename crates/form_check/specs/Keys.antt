@@ -61,5 +61,4 @@ lastOf P (suc m) = cond (P (suc m)) (suc m) (lastOf P m)
 
 -- each of the stops of records 1 to m leads to the one before it in its bucket
 abbrev pub Bucketed : Key → List ℕ → ℕ → List ℕ → Type 0
-Bucketed key w m nexts =
-    (j : ℕ) → 1 ≤ j → j ≤ m → Stop w j → getD nexts j 0 ≡ lastOf (inBucket key w (bucketAt key w j)) (j - 1)
+Bucketed key w m nexts = (j : ℕ) → 1 ≤ j → j ≤ m → Stop w j → getD nexts j 0 ≡ lastOf (inBucket key w (bucketAt key w j)) (j - 1)

@@ -60,8 +60,7 @@ termsWords t = sideNumber (t .side) ∷ t .stop .0 ∷ t .watermark .0 ∷ t .tr
 -- kind, high, low, side, stop, watermark, trail, quantity, sequence: the order of a stored record's words
 unfoldable pub stopWords : StopEntry → List ℕ
 stopWords t =
-    kindNumber (t .id .kind) ∷ t .id .high ∷ t .id .low ∷ sideNumber (t .terms .side) ∷ t .terms .stop .0
-    ∷ t .terms .watermark .0
+    kindNumber (t .id .kind) ∷ t .id .high ∷ t .id .low ∷ sideNumber (t .terms .side) ∷ t .terms .stop .0 ∷ t .terms .watermark .0
     ∷ t .terms .trail ∷ t .quantity .0 ∷ t .seq .0 ∷ []
 
 -- open, prev present, prev, first

@@ -42,12 +42,7 @@ abbrev pub termsKnown : List ℕ → Bool
 termsKnown w = sideKnown (getD w 0 0)
 
 unfoldable pub termsOf : List ℕ → StopTerms
-termsOf w = record {
-  side = sideFrom (getD w 0 0);
-  stop = price (getD w 1 0);
-  watermark = price (getD w 2 0);
-  trail = getD w 3 0;
-}
+termsOf w = record { side = sideFrom (getD w 0 0); stop = price (getD w 1 0); watermark = price (getD w 2 0); trail = getD w 3 0 }
 
 -- a price that may be absent: present, price
 unfoldable pub lastPriceFrom : ℕ → ℕ → LastPrice
@@ -58,11 +53,7 @@ lastPriceOf w = lastPriceFrom (getD w 0 0) (getD w 1 0)
 
 -- document 01, One point, one segment, one pass: prev present, prev, first, last
 unfoldable pub printsOf : List ℕ → PrintSegment
-printsOf w = record {
-  prev = lastPriceFrom (getD w 0 0) (getD w 1 0);
-  first = price (getD w 2 0);
-  last = price (getD w 3 0);
-}
+printsOf w = record { prev = lastPriceFrom (getD w 0 0) (getD w 1 0); first = price (getD w 2 0); last = price (getD w 3 0) }
 
 -- the print path: open (0, 1), prev present (0, 1), prev, first
 unfoldable pub pathKnown : List ℕ → Bool
@@ -70,12 +61,7 @@ pathKnown w = leb (getD w 0 0) 1 && leb (getD w 1 0) 1
 
 unfoldable pub pathOf : List ℕ → PrintPath
 pathOf w =
-    record {
-      «open» = isOn (getD w 0 0);
-      «has_prev» = isOn (getD w 1 0);
-      prev = price (getD w 2 0);
-      first = price (getD w 3 0);
-    }
+    record { «open» = isOn (getD w 0 0); «has_prev» = isOn (getD w 1 0); prev = price (getD w 2 0); first = price (getD w 3 0) }
 
 -- document 01, Admission, change, cancel: change (0 quantity, 1 price, 2 price and quantity, 3 replace), side, price,
 -- quantity. Of these only what the change has is read

@@ -56,11 +56,7 @@ admitByWords kill trade id terms quantity w path =
     (record { answer = unknown; words = w; path = path })
 
 unfoldable pub clearByWords : List ℕ → List ℕ → HostOutcome (Unit {0})
-clearByWords w path = cond (pathKnown path) (hosted (clear w (pathOf path))) (record {
-  answer = unknown;
-  words = w;
-  path = path;
-})
+clearByWords w path = cond (pathKnown path) (hosted (clear w (pathOf path))) (record { answer = unknown; words = w; path = path })
 
 ------------------------------------------------------------------------
 -- The store
@@ -86,10 +82,7 @@ pub record PathWordsOutcome (A : Type 0) : Type 0 where
 
 unfoldable pub onPath : {A : Type 0} → List ℕ → A → PrintPath → PathWordsOutcome A
 onPath path answer after =
-    cond (pathKnown path) (record {
-      answer = accepted answer;
-      path = pathWords after;
-    }) (record { answer = unknown; path = path })
+    cond (pathKnown path) (record { answer = accepted answer; path = pathWords after }) (record { answer = unknown; path = path })
 
 unfoldable pub recordByWords : ℕ → List ℕ → ℕ → List ℕ → PathWordsOutcome (Unit {0})
 recordByWords pending prev p path = onPath path tt (recorded pending (lastPriceOf prev) (price p) (pathOf path))
@@ -108,8 +101,7 @@ abbrev pub segmentByWords : List ℕ → List ℕ → List ℕ → ℕ → ℕ �
 segmentByWords settings prints w elected moved = segmentCall (settingsOf settings) (printsOf prints) w elected moved
 
 abbrev pub walkByWords : List ℕ → List ℕ → List ℕ → List ℕ → ℕ → WalkOutcome
-walkByWords settings prev prices w elected =
-    walkCall (settingsOf settings) (lastPriceOf prev) (map toPrice prices) w elected
+walkByWords settings prev prices w elected = walkCall (settingsOf settings) (lastPriceOf prev) (map toPrice prices) w elected
 
 abbrev pub passByWords : List ℕ → List ℕ → List ℕ → List ℕ → ℕ → PassOutcome
 passByWords settings script prints w elected = passCall (settingsOf settings) script (printsOf prints) w elected
@@ -139,8 +131,7 @@ unfoldable pub electedByWords : List ℕ → ℕ → ℕ
 electedByWords terms p = cond (termsKnown terms) (flag (electedAt (termsOf terms) (price p))) 255
 
 unfoldable pub inconsistencyByWords : List ℕ → ℕ
-inconsistencyByWords terms =
-    cond (termsKnown terms) (orZero (inconsistencyNumber (inconsistencyOf (termsOf terms)))) 255
+inconsistencyByWords terms = cond (termsKnown terms) (orZero (inconsistencyNumber (inconsistencyOf (termsOf terms)))) 255
 
 unfoldable pub previewByWords : ℕ → ℕ → ℕ → ℕ → ℕ → Answer (Option Adjustment)
 previewByWords side stop trail reference p =

@@ -12,7 +12,7 @@ use Rattle.book.specs.declared.Settings.{Settings}
 use Rattle.evaluation.specs.Counts.{passCount}
 use Rattle.evaluation.proofs.Rooms as rooms
 use Rattle.lent_run.specs.declared.Start.{Start}
-use Rattle.walks.proofs.Evaluating.{Left}
+use Rattle.walks.proofs.ListCalls.{Left}
 
 abbrev ofRun : RunOutcome → Left (Answer PassCounts × PrintPath)
 ofRun o = record { told = (o .answer, o .path); words = o .words; entries = o .elected }

@@ -12,10 +12,7 @@ use Rattle.repricing.specs.declared.TrailingStopPrice.the-variants as an
 -- new stop and watermark, where there is a candidate and the stop improves
 unfoldable pub improved : Side → ℕ → Price → Option ℕ → Option Adjustment
 improved side stop price none = none
-improved side stop price (some c) = cond (behind side stop c) (some (record {
-  stop = record { 0 = c };
-  reference = price;
-})) none
+improved side stop price (some c) = cond (behind side stop c) (some (record { stop = record { 0 = c }; reference = price })) none
 
 -- the preview gives them only when the price is past the watermark and the stop improves, else none
 unfoldable pub preview : Side → Price → ℕ → Price → Price → Option Adjustment

@@ -57,8 +57,7 @@ beyond Buy = terms.BuyBelowWatermark
 
 unfoldable pub inconsistencyOf : StopTerms → Inconsistency
 inconsistencyOf t =
-    cond (eqb (t .trail) 0) terms.ZeroTrail
-    (cond (behind (t .side) (t .watermark .0) (t .stop .0)) (beyond (t .side)) terms.None)
+    cond (eqb (t .trail) 0) terms.ZeroTrail (cond (behind (t .side) (t .watermark .0) (t .stop .0)) (beyond (t .side)) terms.None)
 
 -- the number of the question that it answers no
 unfoldable pub inconsistencyNumber : Inconsistency → Option ℕ

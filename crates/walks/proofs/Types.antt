@@ -41,7 +41,7 @@ use Rattle.stop_terms.proofs.StopTerms as terms
 use Rattle.stop_terms.proofs.StopTerms.Laws as terms′
 use Rattle.book.proofs.LayoutAnswer as layout
 use Rattle.book.proofs.LayoutAnswer.Laws as layout′
-use Rattle.walks.proofs.Placing.{Storable}
+use Rattle.walks.proofs.ThinStores.{Storable}
 use Rattle.walks.proofs.Plain.{Plain, Stands, word, struct, enum}
 
 abbrev pub PathOf : Plain

@@ -14,8 +14,8 @@ use Rattle.listing.specs.Entries.{electedWords, movedWords}
 use Rattle.book.specs.declared.Moved.{Moved}
 use Rattle.evaluation.proofs.Rooms.{UuidChild, Listed, ListsElected}
 use Rattle.entry_records.specs.Records.{electedOf, movedOf}
-use Rattle.entry_records.proofs.Reading.{elected-read, moved-read}
-use Rattle.walks.proofs.Evaluating.{Left}
+use Rattle.entry_records.proofs.EntryWords.{elected-read, moved-read}
+use Rattle.walks.proofs.ListCalls.{Left}
 use Rattle.book.specs.Lists.{All}
 
 -- the first words that were written, as many as there are entries, are those entries

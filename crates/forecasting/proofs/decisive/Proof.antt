@@ -4,7 +4,7 @@ use mathlib.Core.Path.{_≡_}
 use native.Mathlib.Omega.{arith}
 use lib.ListN.{length}
 use Rattle.forecasting.specs.Input.{longest}
-use Rattle.forecasting.proofs.Beginning.{same-beginning, same-whole}
+use Rattle.forecasting.proofs.FirstBytes.{same-beginning, same-whole}
 use borrow.Author.Needs.{needs}
 use Rattle.forecasting.proofs.decisive.Statement.{statement}
 use Rattle.forecasting.proofs.decisive.Tie as tie

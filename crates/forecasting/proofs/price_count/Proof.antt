@@ -1,5 +1,5 @@
 -- `forecasting::price_count` meets its contract, by the laws of `Counting`.
-use Rattle.forecasting.proofs.Counting.{word-inside, no-count, count-over, count-other, count-right}
+use Rattle.forecasting.proofs.WordCounts.{word-inside, no-count, count-over, count-other, count-right}
 use borrow.Author.Needs.{needs}
 use Rattle.forecasting.proofs.price_count.Statement.{statement}
 use Rattle.forecasting.proofs.price_count.Tie as tie

@@ -1,7 +1,7 @@
 -- `forecasting::store_length` meets its contract, by the laws of `Counting`.
 use mathlib.Core.Path.{sym, _∙_}
 use native.Mathlib.Omega.{arith}
-use Rattle.forecasting.proofs.Counting.{word-inside, store-over, store-named}
+use Rattle.forecasting.proofs.WordCounts.{word-inside, store-over, store-named}
 use Rattle.forecasting.proofs.Split.{store-none}
 use borrow.Author.Needs.{needs}
 use Rattle.forecasting.proofs.store_length.Statement.{statement}

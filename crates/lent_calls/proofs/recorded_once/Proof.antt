@@ -4,13 +4,13 @@ use mathlib.Core.Path.{_≡_, refl}
 use Prim.Native.Nat.{ℕ}
 use mathlib.Core.List.{[], _∷_, List}
 use contract.Monad.{top}
-use Rattle.walks.proofs.Walking.{URA, fullShare, named, w64, Val, vint, vptr, SProp, ent, emp, id⊢, via, GName, ftrue}
-use Rattle.walks.proofs.Walking.{flft, Memory, Routine, Heap, Calls, Loops, WpFn, Atoms, Fun, givenOf, tables}
-use Rattle.walks.proofs.Walking.{tablesOf, Given, ‵, raw, _⊛_, _$_, _∵_, !, qed, by, move, drop, use2, split, fsplit}
-use Rattle.walks.proofs.Walking.{fjoin, suffices, frame, done, look, init, stop, from, load, addr, of-opd, and-then}
-use Rattle.walks.proofs.Walking.{no-more, assigns, land, returns, enter, alloc1, alloc0, params1, pass1, pass0, free0}
-use Rattle.walks.proofs.Walking.{FmC, RefT, MutRef, nothing, tripleOf, Contract, Triple, calls-at, lasts, entered}
-use Rattle.walks.proofs.Walking.{cited, says, Stays, walkOf, Walks, ends-at, walked}
+use Rattle.walks.proofs.WalkSteps.{URA, fullShare, named, w64, Val, vint, vptr, SProp, ent, emp, id⊢, via, GName, ftrue}
+use Rattle.walks.proofs.WalkSteps.{flft, Memory, Routine, Heap, Calls, Loops, WpFn, Atoms, Fun, givenOf, tables}
+use Rattle.walks.proofs.WalkSteps.{tablesOf, Given, ‵, raw, _⊛_, _$_, _∵_, !, qed, by, move, drop, use2, split, fsplit}
+use Rattle.walks.proofs.WalkSteps.{fjoin, suffices, frame, done, look, init, stop, from, load, addr, of-opd, and-then}
+use Rattle.walks.proofs.WalkSteps.{no-more, assigns, land, returns, enter, alloc1, alloc0, params1, pass1, pass0, free0}
+use Rattle.walks.proofs.WalkSteps.{FmC, RefT, MutRef, nothing, tripleOf, Contract, Triple, calls-at, lasts, entered}
+use Rattle.walks.proofs.WalkSteps.{cited, says, Stays, walkOf, Walks, ends-at, walked}
 use Rattle.book.specs.declared.LastPrice.{LastPrice}
 use Rattle.book.specs.declared.PrintPath.{PrintPath}
 use Rattle.book.specs.Path.{recorded}

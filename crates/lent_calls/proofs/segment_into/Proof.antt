@@ -7,15 +7,15 @@ use lib.Dec.{lit<}
 use lib.ListN.{length, take, drop as without}
 use types.Kit.{use3, Item, Sq, runs, atRet}
 use denote.Triple.Walked.{needs}
-use Rattle.walks.proofs.Walking.{URA, fullShare, named, w64, Val, vint, vptr, SProp, ent, id⊢, via, Lft, Share, GName}
-use Rattle.walks.proofs.Walking.{ftrue, fat, flft, Memory, Routine, Heap, Calls, Loops, WpFn, Atoms, Fun, givenOf}
-use Rattle.walks.proofs.Walking.{tables, tablesOf, Given, ‵, raw, _⊛_, ⋆, _$_, _∵_, !, qed, by, move, keep, drop}
-use Rattle.walks.proofs.Walking.{split, join, rewrite, fsplit, fjoin, feqL, suffices, frame, done, look, init, stop}
-use Rattle.walks.proofs.Walking.{hop, fld, from, load, addr, of-opd, and-then, no-more, assigns, land, returns, enter}
-use Rattle.walks.proofs.Walking.{alloc1, alloc0, params1, pass1, pass0, free0, agg, whole, sub, look-in, FmC, owns}
-use Rattle.walks.proofs.Walking.{RefT, sliceVal, MutSlice, Room, finally, slice-vals, mut-slice-tells, u64, plain}
-use Rattle.walks.proofs.Walking.{nothing, onEntry, tripleOf, Contract, Triple, calls-at, lasts, entered, cited, Stays}
-use Rattle.walks.proofs.Walking.{gave-slice, walkOf, AllGo, goes-gave-slice, Walks, ends-at, walked}
+use Rattle.walks.proofs.WalkSteps.{URA, fullShare, named, w64, Val, vint, vptr, SProp, ent, id⊢, via, Lft, Share, GName}
+use Rattle.walks.proofs.WalkSteps.{ftrue, fat, flft, Memory, Routine, Heap, Calls, Loops, WpFn, Atoms, Fun, givenOf}
+use Rattle.walks.proofs.WalkSteps.{tables, tablesOf, Given, ‵, raw, _⊛_, ⋆, _$_, _∵_, !, qed, by, move, keep, drop}
+use Rattle.walks.proofs.WalkSteps.{split, join, rewrite, fsplit, fjoin, feqL, suffices, frame, done, look, init, stop}
+use Rattle.walks.proofs.WalkSteps.{hop, fld, from, load, addr, of-opd, and-then, no-more, assigns, land, returns, enter}
+use Rattle.walks.proofs.WalkSteps.{alloc1, alloc0, params1, pass1, pass0, free0, agg, whole, sub, look-in, FmC, owns}
+use Rattle.walks.proofs.WalkSteps.{RefT, sliceVal, MutSlice, Room, finally, slice-vals, mut-slice-tells, u64, plain}
+use Rattle.walks.proofs.WalkSteps.{nothing, onEntry, tripleOf, Contract, Triple, calls-at, lasts, entered, cited, Stays}
+use Rattle.walks.proofs.WalkSteps.{gave-slice, walkOf, AllGo, goes-gave-slice, Walks, ends-at, walked}
 use mir.Syntax.{erased, mut, tyInt, tyRef, tyArray}
 use prog.Wp.{Env}
 use denote.Memory.{pointee}

@@ -3,8 +3,8 @@
 use mathlib.Core.Path.{refl}
 use mathlib.Core.List.{List}
 use Prim.Native.Nat.{ℕ}
-use Rattle.walks.proofs.Walking.{URA, Heap, Atoms, Lft, givenOf, tables, tablesOf, RefT, tripleOf, Contract, entered}
-use Rattle.walks.proofs.Walking.{cited}
+use Rattle.walks.proofs.WalkSteps.{URA, Heap, Atoms, Lft, givenOf, tables, tablesOf, RefT, tripleOf, Contract, entered}
+use Rattle.walks.proofs.WalkSteps.{cited}
 use Rattle.error.specs.Answer.{Answer}
 use Rattle.book.specs.declared.PassCounts.{PassCounts}
 use Rattle.book.specs.declared.PrintSegment.{PrintSegment}
@@ -15,8 +15,8 @@ use Rattle.lent_pass.specs.declared.PassRun.{PassRun}
 use Rattle.book.specs.Sizes.{electedLength}
 use Rattle.word_rooms.proofs.Cut.{ofList}
 use Rattle.book.specs.Calls.{passCall}
-use Rattle.walks.proofs.Evaluating.{Left, Handed, plainly, numbers, Parts, Evaluates, meets}
-use Rattle.walks.proofs.Filling.{Fills}
+use Rattle.walks.proofs.ListCalls.{Left, Handed, plainly, numbers, Parts, Evaluates, meets}
+use Rattle.walks.proofs.FillLoop.{Fills}
 use denote.Struct.Laws.{owed}
 use Rattle.lent_pass.proofs.PassRun as run
 use Rattle.lent_pass.proofs.PassRun.Laws as run′

@@ -3,8 +3,8 @@
 use mathlib.Core.Path.{refl}
 use mathlib.Core.List.{List}
 use Prim.Native.Nat.{ℕ}
-use Rattle.walks.proofs.Walking.{URA, Heap, Atoms, Lft, givenOf, tables, tablesOf, RefT, tripleOf, Contract, entered}
-use Rattle.walks.proofs.Walking.{cited}
+use Rattle.walks.proofs.WalkSteps.{URA, Heap, Atoms, Lft, givenOf, tables, tablesOf, RefT, tripleOf, Contract, entered}
+use Rattle.walks.proofs.WalkSteps.{cited}
 use Rattle.error.specs.Answer.{Answer}
 use Rattle.book.specs.declared.PassCounts.{PassCounts}
 use Rattle.book.specs.declared.PrintPath.{PrintPath}
@@ -16,8 +16,8 @@ use Rattle.lent_run.specs.declared.ListedRun.{ListedRun}
 use Rattle.book.specs.Sizes.{electedLength}
 use Rattle.lent_run.proofs.Outcome.{runTo}
 use Rattle.lent_run.proofs.Types.{StartOf, StopRunOf}
-use Rattle.walks.proofs.Evaluating.{Left, Handed, plainly, numbers, Parts, Evaluates, meets}
-use Rattle.walks.proofs.Filling.{Fills}
+use Rattle.walks.proofs.ListCalls.{Left, Handed, plainly, numbers, Parts, Evaluates, meets}
+use Rattle.walks.proofs.FillLoop.{Fills}
 use denote.Struct.Laws.{owed}
 use Rattle.lent_run.proofs.ListedRun as run
 use Rattle.lent_run.proofs.ListedRun.Laws as run′

@@ -5,15 +5,15 @@ use mathlib.Core.Path.{_≡_, refl, ap, _∙_}
 use Prim.Native.Nat.{ℕ}
 use lib.ListN.{length}
 use mathlib.Core.List.{[], _∷_, List, _++_}
-use Rattle.walks.proofs.Walking.{URA, fullShare, named, Val, vptr, SProp, ent, emp, id⊢, via, fst∗, Lft, Share, GName}
-use Rattle.walks.proofs.Walking.{ftrue, fat, flft, fobs, Memory, Routine, Heap, Calls, Loops, WpFn, Atoms, Fun}
-use Rattle.walks.proofs.Walking.{givenOf, tables, tablesOf, Given, ‵, raw, _⊛_, ⋆, _$_, _∵_, !, qed, by, move, keep}
-use Rattle.walks.proofs.Walking.{drop, split, join, rewrite, fsplit, fsplit3, fjoin, feqL, suffices, frame, done}
-use Rattle.walks.proofs.Walking.{look, look-raw, init, store-raw, stop, hop, fld, from, load, addr, of-opd, and-then}
-use Rattle.walks.proofs.Walking.{no-more, assigns, land, returns, enter, alloc1, alloc0, params1, pass1, pass0, free0}
-use Rattle.walks.proofs.Walking.{agg, whole, sub, look-in, FmC, owns, RefT, MutRef, sliceVal, MutSlice, Room, finally}
-use Rattle.walks.proofs.Walking.{u64, plain, nothing, onEntry, tripleOf, Contract, Triple, calls-at, lasts, entered}
-use Rattle.walks.proofs.Walking.{cited, walkOf, ends-at, w64, use0}
+use Rattle.walks.proofs.WalkSteps.{URA, fullShare, named, Val, vptr, SProp, ent, emp, id⊢, via, fst∗, Lft, Share, GName}
+use Rattle.walks.proofs.WalkSteps.{ftrue, fat, flft, fobs, Memory, Routine, Heap, Calls, Loops, WpFn, Atoms, Fun}
+use Rattle.walks.proofs.WalkSteps.{givenOf, tables, tablesOf, Given, ‵, raw, _⊛_, ⋆, _$_, _∵_, !, qed, by, move, keep}
+use Rattle.walks.proofs.WalkSteps.{drop, split, join, rewrite, fsplit, fsplit3, fjoin, feqL, suffices, frame, done}
+use Rattle.walks.proofs.WalkSteps.{look, look-raw, init, store-raw, stop, hop, fld, from, load, addr, of-opd, and-then}
+use Rattle.walks.proofs.WalkSteps.{no-more, assigns, land, returns, enter, alloc1, alloc0, params1, pass1, pass0, free0}
+use Rattle.walks.proofs.WalkSteps.{agg, whole, sub, look-in, FmC, owns, RefT, MutRef, sliceVal, MutSlice, Room, finally}
+use Rattle.walks.proofs.WalkSteps.{u64, plain, nothing, onEntry, tripleOf, Contract, Triple, calls-at, lasts, entered}
+use Rattle.walks.proofs.WalkSteps.{cited, walkOf, ends-at, w64, use0}
 use mir.Syntax.{Ty, erased, mut, imm, tyInt, tyRef, place, field, deref, copy, rvOpd, addrOf, aggregate, assign, seq}
 use mir.Syntax.{return, call, Body as MirBody}
 use base.Fml.{Fml, fauth, fbor, fobor}

@@ -5,16 +5,16 @@ use Prim.Native.Nat.{ℕ, _≤_, _<_, _^_}
 use mathlib.Core.List.{[], _∷_, _++_, List, map}
 use lib.Dec.{lit<}
 use lib.ListN.{length, take}
-use Rattle.walks.proofs.Walking.{URA, fullShare, named, w64, Val, vint, vptr, SProp, ent, via, id⊢, fst∗, emp, Lft}
-use Rattle.walks.proofs.Walking.{Share, GName, ftrue, fat, flft, Memory, Routine, Heap, Calls, Loops, WpFn, Atoms}
-use Rattle.walks.proofs.Walking.{Fun, givenOf, tables, tablesOf, Given, ‵, raw, _⊛_, ⋆, _$_, _∵_, !, qed, by, move}
-use Rattle.walks.proofs.Walking.{keep, drop, use2, split, join, rewrite, fsplit, fjoin, feqL, suffices, frame, done}
-use Rattle.walks.proofs.Walking.{look, init, stop, hop, fld, from, load, addr, of-opd, and-then, no-more, assigns}
-use Rattle.walks.proofs.Walking.{land, returns, enter, alloc1, alloc0, params1, pass1, pass0, free0, agg, whole, sub}
-use Rattle.walks.proofs.Walking.{look-in, FmC, owns, u64, RefT, sliceVal, MutSlice, Room, finally, slice-vals}
-use Rattle.walks.proofs.Walking.{mut-slice-tells, plain, nothing, onEntry, tripleOf, Contract, Triple, calls-at}
-use Rattle.walks.proofs.Walking.{lasts, entered, cited, says, Stays, gave-slice, walkOf, AllGo, goes-gave-slice}
-use Rattle.walks.proofs.Walking.{Walks, ends-at, walked}
+use Rattle.walks.proofs.WalkSteps.{URA, fullShare, named, w64, Val, vint, vptr, SProp, ent, via, id⊢, fst∗, emp, Lft}
+use Rattle.walks.proofs.WalkSteps.{Share, GName, ftrue, fat, flft, Memory, Routine, Heap, Calls, Loops, WpFn, Atoms}
+use Rattle.walks.proofs.WalkSteps.{Fun, givenOf, tables, tablesOf, Given, ‵, raw, _⊛_, ⋆, _$_, _∵_, !, qed, by, move}
+use Rattle.walks.proofs.WalkSteps.{keep, drop, use2, split, join, rewrite, fsplit, fjoin, feqL, suffices, frame, done}
+use Rattle.walks.proofs.WalkSteps.{look, init, stop, hop, fld, from, load, addr, of-opd, and-then, no-more, assigns}
+use Rattle.walks.proofs.WalkSteps.{land, returns, enter, alloc1, alloc0, params1, pass1, pass0, free0, agg, whole, sub}
+use Rattle.walks.proofs.WalkSteps.{look-in, FmC, owns, u64, RefT, sliceVal, MutSlice, Room, finally, slice-vals}
+use Rattle.walks.proofs.WalkSteps.{mut-slice-tells, plain, nothing, onEntry, tripleOf, Contract, Triple, calls-at}
+use Rattle.walks.proofs.WalkSteps.{lasts, entered, cited, says, Stays, gave-slice, walkOf, AllGo, goes-gave-slice}
+use Rattle.walks.proofs.WalkSteps.{Walks, ends-at, walked}
 use mir.Syntax.{erased, mut, imm, tyInt, tyUnit, tyRef, tyArray}
 use base.Fml.{Fml, froom}
 use prog.Wp.{Env, Tables}

@@ -4,15 +4,15 @@ use mathlib.Core.Path.{_≡_, refl}
 use Prim.Native.Nat.{ℕ}
 use lib.ListN.{length}
 use mathlib.Core.List.{[], _∷_, List}
-use Rattle.walks.proofs.Walking.{URA, fullShare, named, Val, vptr, SProp, ent, emp, id⊢, via, fst∗, Lft, Share, GName}
-use Rattle.walks.proofs.Walking.{ftrue, fat, flft, fobs, Memory, Routine, Heap, Calls, Loops, WpFn, Atoms, Fun}
-use Rattle.walks.proofs.Walking.{givenOf, tables, tablesOf, Given, ‵, raw, _⊛_, ⋆, _$_, _∵_, !, qed, by, move, keep}
-use Rattle.walks.proofs.Walking.{drop, use2, split, join, rewrite, fsplit, fsplit3, fjoin, feqL, suffices, frame}
-use Rattle.walks.proofs.Walking.{done, look, look-raw, init, store-raw, stop, hop, fld, from, load, addr, of-opd}
-use Rattle.walks.proofs.Walking.{and-then, no-more, assigns, land, returns, enter, alloc1, alloc0, params1, pass1}
-use Rattle.walks.proofs.Walking.{pass0, free0, agg, whole, sub, look-in, FmC, owns, RefT, MutRef, sliceVal, MutSlice}
-use Rattle.walks.proofs.Walking.{Room, finally, u64, plain, nothing, onEntry, tripleOf, Contract, Triple, calls-at}
-use Rattle.walks.proofs.Walking.{lasts, entered, cited, walkOf, ends-at}
+use Rattle.walks.proofs.WalkSteps.{URA, fullShare, named, Val, vptr, SProp, ent, emp, id⊢, via, fst∗, Lft, Share, GName}
+use Rattle.walks.proofs.WalkSteps.{ftrue, fat, flft, fobs, Memory, Routine, Heap, Calls, Loops, WpFn, Atoms, Fun}
+use Rattle.walks.proofs.WalkSteps.{givenOf, tables, tablesOf, Given, ‵, raw, _⊛_, ⋆, _$_, _∵_, !, qed, by, move, keep}
+use Rattle.walks.proofs.WalkSteps.{drop, use2, split, join, rewrite, fsplit, fsplit3, fjoin, feqL, suffices, frame}
+use Rattle.walks.proofs.WalkSteps.{done, look, look-raw, init, store-raw, stop, hop, fld, from, load, addr, of-opd}
+use Rattle.walks.proofs.WalkSteps.{and-then, no-more, assigns, land, returns, enter, alloc1, alloc0, params1, pass1}
+use Rattle.walks.proofs.WalkSteps.{pass0, free0, agg, whole, sub, look-in, FmC, owns, RefT, MutRef, sliceVal, MutSlice}
+use Rattle.walks.proofs.WalkSteps.{Room, finally, u64, plain, nothing, onEntry, tripleOf, Contract, Triple, calls-at}
+use Rattle.walks.proofs.WalkSteps.{lasts, entered, cited, walkOf, ends-at}
 use sound.WpLaws.{fmOf}
 use Rattle.walks.proofs.Params.{Param, lent, lent-struct, stays, meets}
 use Rattle.walks.proofs.Params as params

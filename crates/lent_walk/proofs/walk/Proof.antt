@@ -2,8 +2,8 @@
 use mathlib.Core.Path.{refl}
 use mathlib.Core.List.{List, map}
 use Prim.Native.Nat.{ℕ}
-use Rattle.walks.proofs.Walking.{URA, Heap, Atoms, Lft, givenOf, tables, tablesOf, RefT, tripleOf, Contract, entered}
-use Rattle.walks.proofs.Walking.{cited}
+use Rattle.walks.proofs.WalkSteps.{URA, Heap, Atoms, Lft, givenOf, tables, tablesOf, RefT, tripleOf, Contract, entered}
+use Rattle.walks.proofs.WalkSteps.{cited}
 use Rattle.error.specs.Answer.{Answer}
 use Rattle.book.specs.declared.Counts.{Counts}
 use Rattle.book.specs.declared.LastPrice.{LastPrice}
@@ -15,8 +15,8 @@ use Rattle.lent_walk.specs.declared.Run.{Run}
 use Rattle.book.specs.Sizes.{electedLength}
 use Rattle.word_rooms.proofs.Cut.{ofList}
 use Rattle.book.specs.Calls.{walkCall}
-use Rattle.walks.proofs.Evaluating.{Left, Handed, plainly, numbers, Parts, Evaluates, meets}
-use Rattle.walks.proofs.Filling.{Fills}
+use Rattle.walks.proofs.ListCalls.{Left, Handed, plainly, numbers, Parts, Evaluates, meets}
+use Rattle.walks.proofs.FillLoop.{Fills}
 use denote.Struct.Laws.{owed}
 use Rattle.lent_walk.proofs.Run as run
 use Rattle.lent_walk.proofs.Run.Laws as run′

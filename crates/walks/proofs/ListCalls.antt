@@ -48,7 +48,7 @@ use Rattle.book.specs.declared.Settings.{Settings}
 use Rattle.walks.proofs.Buffers.{Typed, Entry, blank, blank-length, zeros, blankVal, zeroed, lends-out, had-back, fills}
 use Rattle.walks.proofs.Claims.{All, claims, claimed}
 use Rattle.book.specs.Sizes.{electedLength}
-use Rattle.walks.proofs.Filling.{Fills}
+use Rattle.walks.proofs.FillLoop.{Fills}
 use Rattle.walks.proofs.Frame.{Cell, room as empty, full, away, locals, frees-all}
 use Rattle.walks.proofs.Lent.{has, answers}
 use Rattle.walks.proofs.Locals.{to-row, row-room}
