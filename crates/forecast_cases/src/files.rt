@@ -1,6 +1,6 @@
 // The input as a file in the folder that the program runs in, so that a case goes through the same reading as
 // standard input does.
-use forecasting::forecast_of;
+use forecast_lines::forecast_of;
 
 // Makes the file of these bytes.
 pub fn write(bytes: &[u8]) {

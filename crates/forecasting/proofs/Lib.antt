@@ -1,5 +1,1 @@
-pub mod FirstBytes
-pub mod WordCounts
-pub mod Split
 pub mod Walked
-pub mod Words

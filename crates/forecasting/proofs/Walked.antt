@@ -10,7 +10,7 @@ use Rattle.book.specs.declared.LastPrice.the-variants as last
 use Rattle.book.specs.declared.Settings.{Settings}
 use Rattle.listing.specs.Entries.{electedWords}
 use Rattle.pricelevel.specs.Price.{toPrice}
-use Rattle.forecasting.specs.Input.{wordsOf, storeIn, pricesIn, forecastSettings, forecastOf}
+use Rattle.forecast_input.specs.Input.{wordsOf, storeIn, pricesIn, forecastSettings, forecastOf}
 
 pub walked-as : (s : Settings) (bytes w p : List ℕ) (room : ℕ) (answer : Answer Counts) (lent listed : List (List ℕ))
     → s ≡ forecastSettings → w ≡ storeIn (wordsOf bytes) → p ≡ pricesIn (wordsOf bytes) → room ≡ mostRecords

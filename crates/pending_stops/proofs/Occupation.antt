@@ -45,39 +45,38 @@ module _ (n : ℕ) (w : List ℕ) (b : Book) (r : List ℕ) (st : Stored n w b r
   first-vacant = free-vacant b r (st .valid) (st .fits) (headOr0 (b .free))
       (rw (← free-first) at (has-here (headOr0 (b .free)) (drop 1 (b .free))))
 
-  -- one stop more, and the next sequence goes up
-  abbrev w1 : List ℕ
-  w1 = set (set w 1 (getD w 1 0 + 1)) 2 (getD w 2 0 + 1)
-
   pub count-room : getD w 1 0 + 1 < 2 ^ 64
   count-room = omega (arith, stored-holds st .contents .word1, st .valid .few-records)
 
   pub next-word : getD w 2 0 ≡ b .next
   next-word = stored-holds st .contents .word2
 
-  pub occupying-chained : Chained n w1 (chainsOf b)
-  occupying-chained =
-      let one = chained-set-header n w (chainsOf b) (stored-holds st .chained) 1 (getD w 1 0 + 1) (omega arith) in
-      chained-set-header n (set w 1 (getD w 1 0 + 1)) (chainsOf b) one 2 (getD w 2 0 + 1) (omega arith)
+  -- with any numbers in the place of the count and of the next sequence
+  module _ (count next : ℕ) where
+    abbrev w1 : List ℕ
+    w1 = set (set w 1 count) 2 next
 
-  contents1 : Contents n w1 (pendingCount (b .slots) + 1) (b .next + 1) (b .tick) (b .slots) r
-  contents1 =
-      let h = stored-holds st .contents in
-      let one = contents-count h (getD w 1 0 + 1) (omega (arith, stored-room st)) in
-      let two = contents-next one (getD w 2 0 + 1) (rw length-set (omega (arith, stored-room st))) in
-      contents-numbers two (ap (λ (k : ℕ). k + 1) (h .word1)) (ap (λ (k : ℕ). k + 1) next-word)
+    pub occupying-chained : Chained n w1 (chainsOf b)
+    occupying-chained =
+        let one = chained-set-header n w (chainsOf b) (stored-holds st .chained) 1 count (omega arith) in
+        chained-set-header n (set w 1 count) (chainsOf b) one 2 next (omega arith)
+
+    contents1 : Contents n w1 count next (b .tick) (b .slots) r
+    contents1 =
+        let one = contents-count (stored-holds st .contents) count (omega (arith, stored-room st)) in
+        contents-next one next (rw length-set (omega (arith, stored-room st)))
 
 module _ (n : ℕ) (w : List ℕ) (b : Book) (r : List ℕ) (st : Stored n w b r) (id : Id) (terms : StopTerms)
     (quantity : Quantity)
-    (a : Admissible (newEntry id terms quantity b) b)
-    (w2 : List ℕ) (k2 : Kept n (w1 n w b r st (a .room)) w2) (i : ℕ)
-    (p2 : (ch : StoreChain → List ℕ) (j : ℕ) (l : List ℕ) → Chained n (w1 n w b r st (a .room)) ch → ch Free ≡ j ∷ l
+    (a : Admissible (newEntry id terms quantity b) b) (count next : ℕ)
+    (w2 : List ℕ) (k2 : Kept n (w1 n w b r st (a .room) count next) w2) (i : ℕ)
+    (p2 : (ch : StoreChain → List ℕ) (j : ℕ) (l : List ℕ) → Chained n (w1 n w b r st (a .room) count next) ch → ch Free ≡ j ∷ l
     → (i ≡ j) × Ready n w2 (upd Free l ch) j) where
   abbrev t : StopEntry
   t = newEntry id terms quantity b
 
   popped : (i ≡ headOr0 (b .free)) × Ready n w2 (upd Free (drop 1 (b .free)) (chainsOf b)) (headOr0 (b .free))
-  popped = p2 (chainsOf b) (headOr0 (b .free)) (drop 1 (b .free)) (occupying-chained n w b r st (a .room))
+  popped = p2 (chainsOf b) (headOr0 (b .free)) (drop 1 (b .free)) (occupying-chained n w b r st (a .room) count next)
       (free-first n w b r st (a .room))
 
   slots-before : b .slots ≡ set (admitted t b .slots) (i - 1) vacant
@@ -98,11 +97,15 @@ module _ (n : ℕ) (w : List ℕ) (b : Book) (r : List ℕ) (st : Stored n w b r
   pub occupying-record : Record n w2 i
   occupying-record = ready-record n w2 (chainsWithout i (admitted t b)) i ready2
 
-  contents2 : Contents n w2 (pendingCount (admitted t b .slots)) (admitted t b .next) (admitted t b .tick) (b .slots) r
+  -- one stop more, and the next sequence goes up
+  contents2 : count ≡ getD w 1 0 + 1 → next ≡ getD w 2 0 + 1
+      → Contents n w2 (pendingCount (admitted t b .slots)) (admitted t b .next) (admitted t b .tick) (b .slots) r
   unfolding admitted
-  contents2 =
-      contents-numbers (contents-kept (contents1 n w b r st (a .room)) w2 k2)
-      (add-one (pendingCount (b .slots)) ∙ sym (admitted-count t b (st .valid) (a .room))) refl
+  contents2 more up =
+      contents-numbers (contents-kept (contents1 n w b r st (a .room) count next) w2 k2)
+      (more ∙ ap (λ (k : ℕ). k + 1) (stored-holds st .contents .word1) ∙ add-one (pendingCount (b .slots))
+      ∙ sym (admitted-count t b (st .valid) (a .room)))
+      (up ∙ ap (λ (k : ℕ). k + 1) (next-word n w b r st (a .room)))
 
   entry-slots : admitted t b .slots ≡ set (b .slots) (i - 1) (held t)
   unfolding admitted
@@ -127,11 +130,11 @@ module _ (n : ℕ) (w : List ℕ) (b : Book) (r : List ℕ) (st : Stored n w b r
     pub occupied-length : (w4 : List ℕ) → Kept n w3 w4 → length w4 ≡ length w
     occupied-length w4 k4 = k4 .size ∙ rw (e3, length-sets) (k2 .size ∙ simp length-set)
 
-    pub occupied-stored : StopFits t → b .next + 1 < 2 ^ 64 → (w4 : List ℕ) → Kept n w3 w4
+    pub occupied-stored : StopFits t → b .next + 1 < 2 ^ 64 → count ≡ getD w 1 0 + 1 → next ≡ getD w 2 0 + 1 → (w4 : List ℕ) → Kept n w3 w4
         → ((ch : StoreChain → List ℕ) → Ready n w3 ch i → Chained n w4 (within (terms .side) w3 i ch))
         → Stored n w4 (admitted t b) r
     unfolding newEntry
-    occupied-stored g last w4 k4 p4 =
+    occupied-stored g last more up w4 k4 p4 =
         entered-stored n w2 (admitted t b) r (admitted-valid t b (st .valid) a)
-        (admitted-fits t b (st .fits) g last) i t (b .slots) entry-slots contents2 ready2 w3 entry-words
+        (admitted-fits t b (st .fits) g last) i t (b .slots) entry-slots (contents2 more up) ready2 w3 entry-words
         w4 k4 p4

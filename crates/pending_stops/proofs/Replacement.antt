@@ -25,13 +25,14 @@ use Rattle.pending_stops.specs.Stored.{Stored, replaced, Contents}
 
 module _ (n : ℕ) (w : List ℕ) (b : Book) (r : List ℕ) (st : Stored n w b r) (side : Side) (i : ℕ)
     (m : Member side (b .slots) i)
-    (t : StopEntry) (next : ℕ) (v : Valid (replaced i t next b)) (f : Fits (replaced i t next b)) where
+    (t : StopEntry) (next : ℕ) (word : ℕ) (v : Valid (replaced i t next b)) (f : Fits (replaced i t next b)) where
+  -- with any number in the place of the next sequence
   abbrev w1 : List ℕ
-  w1 = set w 2 next
+  w1 = set w 2 word
 
   pub replacing-on : On n w1 (chainsOf b) side i
   replacing-on = side-on b (st .valid)
-      (st .fits) side i m n w1 (chained-set-header n w (chainsOf b) (stored-holds st .chained) 2 next (omega arith))
+      (st .fits) side i m n w1 (chained-set-header n w (chainsOf b) (stored-holds st .chained) 2 word (omega arith))
 
   same-count : pendingCount (b .slots) ≡ pendingCount (replaced i t next b .slots)
   unfolding pendingCount
@@ -51,19 +52,20 @@ module _ (n : ℕ) (w : List ℕ) (b : Book) (r : List ℕ) (st : Stored n w b r
     pub replacing-record : Record n w2 i
     replacing-record = ready-record n w2 (chainsWithout i (replaced i t next b)) i ready2
 
-    contents2 : Contents n w2 (pendingCount (replaced i t next b .slots)) next (b .tick) (b .slots) r
-    contents2 = rw (← same-count)
-        (contents-kept (contents-next (stored-holds st .contents) next (omega (arith, stored-room st))) w2 k2)
+    contents2 : word ≡ next
+        → Contents n w2 (pendingCount (replaced i t next b .slots)) next (b .tick) (b .slots) r
+    contents2 e = rw (← same-count, ← e)
+        (contents-kept (contents-next (stored-holds st .contents) word (omega (arith, stored-room st))) w2 k2)
 
     module _ (w3 : List ℕ) (e3 : w3 ≡ sets w2 (cell i 0) (recordOf (held t) 0 0)) where
       pub replacing-ready : Ready n w3 (chainsWithout i (replaced i t next b)) i
       replacing-ready = entered-ready n w2 (replaced i t next b) i t ready2 w3 e3
 
       pub replaced-length : (w4 : List ℕ) → Kept n w3 w4 → length w4 ≡ length w
-      replaced-length w4 k4 = k4 .size ∙ rw (e3, length-sets) (k2 .size ∙ length-set w 2 next)
+      replaced-length w4 k4 = k4 .size ∙ rw (e3, length-sets) (k2 .size ∙ length-set w 2 word)
 
-      pub replaced-stored : (w4 : List ℕ) → Kept n w3 w4
+      pub replaced-stored : word ≡ next → (w4 : List ℕ) → Kept n w3 w4
           → ((ch : StoreChain → List ℕ) → Ready n w3 ch i → Chained n w4 (within (sideOf t) w3 i ch))
           → Stored n w4 (replaced i t next b) r
-      replaced-stored w4 k4 p4 =
-          entered-stored n w2 (replaced i t next b) r v f i t (b .slots) refl contents2 ready2 w3 e3 w4 k4 p4
+      replaced-stored e w4 k4 p4 =
+          entered-stored n w2 (replaced i t next b) r v f i t (b .slots) refl (contents2 e) ready2 w3 e3 w4 k4 p4

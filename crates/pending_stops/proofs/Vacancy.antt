@@ -47,8 +47,11 @@ module _ (n : ℕ) (w : List ℕ) (b : Book) (r : List ℕ) (st : Stored n w b r
   pub count-some : 1 ≤ getD w 1 0
   count-some = omega (arith, count-before)
 
+module _ (n : ℕ) (w : List ℕ) (b : Book) (r : List ℕ) (st : Stored n w b r) (side : Side) (i : ℕ)
+    (m : Member side (b .slots) i) (count : ℕ) where
+  -- with any number in the place of the count
   abbrev w1 : List ℕ
-  w1 = set w 1 (getD w 1 0 - 1)
+  w1 = set w 1 count
 
   pub on1 : On n w1 (chainsOf b) side i
   on1 = side-on b (st .valid)
@@ -75,22 +78,24 @@ module _ (n : ℕ) (w : List ℕ) (b : Book) (r : List ℕ) (st : Stored n w b r
           (omega (arith, recordOf-length vacant 0 0))
           ∙ withLinks-watermark (dataWords vacant) (slot-long vacant) 0 0)
 
-      contents3 : Contents n w3 (pendingCount (set (b .slots) (i - 1) vacant)) (b .next) (b .tick)
+      contents3 : count ≡ getD w 1 0 - 1
+          → Contents n w3 (pendingCount (set (b .slots) (i - 1) vacant)) (b .next) (b .tick)
           (set (b .slots) (i - 1) vacant) r
-      contents3 =
-          let count : getD w 1 0 - 1 ≡ pendingCount (set (b .slots) (i - 1) vacant) = omega (arith, count-before) in
+      contents3 e =
+          let right : count ≡ pendingCount (set (b .slots) (i - 1) vacant) =
+          omega (arith, count-before n w b r st side i m) in
           let before = contents-kept
-          (contents-count (stored-holds st .contents) (getD w 1 0 - 1) (omega (arith, stored-room st))) w2 k2 in
-          rw (e3, ← count) (contents-written before i record2 vacant 0 0)
+          (contents-count (stored-holds st .contents) count (omega (arith, stored-room st))) w2 k2 in
+          rw (e3, ← right) (contents-written before i record2 vacant 0 0)
 
       pub vacated-length : (w4 : List ℕ) → Kept n w3 w4 → length w4 ≡ length w
-      vacated-length w4 k4 = k4 .size ∙ rw (e3, length-sets) (k2 .size ∙ length-set w 1 (getD w 1 0 - 1))
+      vacated-length w4 k4 = k4 .size ∙ rw (e3, length-sets) (k2 .size ∙ length-set w 1 count)
 
-      pub vacated-stored : (w4 : List ℕ) → Kept n w3 w4
+      pub vacated-stored : count ≡ getD w 1 0 - 1 → (w4 : List ℕ) → Kept n w3 w4
           → ((ch : StoreChain → List ℕ) → Ready n w3 ch i → recordWord w3 i nextByWatermark ≡ 0
           → Chained n w4 (upd Free (i ∷ ch Free) ch))
           → Stored n w4 (vacated i b) r
-      vacated-stored w4 k4 p4 =
-          pushed-stored b i (vacated-valid stop b (st .valid) member-in-book)
-          (vacated-fits i b (st .fits)) n w3 r contents3 w4 k4
+      vacated-stored e w4 k4 p4 =
+          pushed-stored b i (vacated-valid (stop n w b r st side i m) b (st .valid) (member-in-book n w b r st side i m))
+          (vacated-fits i b (st .fits)) n w3 r (contents3 e) w4 k4
           (p4 (chainsWithout i b) ready3 blank3)

@@ -114,12 +114,14 @@ module _ {kill falls : Bool} {prev : LastPrice} {prices : List ℕ} {n : ℕ} {w
         let (e, f, g, now) = h .does b r st in
         (_, r, now, omega (arith, room, f, h .size, walkFrom-count kill falls prev (map toPrice (take i prices)) b))
 
+    -- whichever point comes next
+    pub point-moves-few : (first : Bool) (price : Price) {x : List ℕ} {j : List (List ℕ)} (m end : ℕ)
+        → Does (point kill first price) n v x k j at m end → {b : Book} {r : List ℕ} → Stored n w b r → m ≤ mostRecords
+    point-moves-few first price m end does {b} {r} st = point-few _ _ _ _ _ _ _ _ does (h .does b r st .3)
+
     module _ (inside : i < length prices) {x : List ℕ} {j : List (List ℕ)} (m end : ℕ)
         (does : Does (point kill (sellsFirst falls from (toPrice (getD prices i 0)))
         (toPrice (getD prices i 0))) n v x k j at m end) where
-      pub point-moves-few : {b : Book} {r : List ℕ} → Stored n w b r → m ≤ mostRecords
-      point-moves-few {b = b} {r = r} st = point-few _ _ _ _ _ _ _ _ does (h .does b r st .3)
-
       more : map toPrice (take i prices) ++ (toPrice (getD prices i 0) ∷ []) ≡ map toPrice (take (i + 1) prices)
       more =
           let e : i + 1 ≡ suc i = omega arith in
@@ -134,7 +136,7 @@ module _ {kill falls : Bool} {prev : LastPrice} {prices : List ℕ} {n : ℕ} {w
         size = q ∙ h .size;
         arrival = sym (arrived-more prev (map toPrice (take i prices)) (toPrice (getD prices i 0)))
             ∙ ap (arrived prev) more;
-        few-moves = omega (arith, h .few-moves, point-moves-few st);
+        few-moves = omega (arith, h .few-moves, point-moves-few _ _ m end does st);
         does = does-same _ (walkFrom kill falls prev (map toPrice (take (i + 1) prices)))
             (λ b. walkFrom-more kill falls prev (map toPrice (take i prices)) (toPrice (getD prices i 0)) b
             ∙ ap (λ ps. walkFrom kill falls prev ps b) more) l j 0 (moves + m) end

@@ -1,26 +1,13 @@
 // What a session lends, and the lines that set it.
-use crate::names;
-use crate::numbers::four;
-use crate::numbers::set;
-use crate::numbers::word;
-use crate::printing;
 use crate::store_lines;
-use book::HEADER_WORDS;
-use book::MOST_RECORDS;
-use book::RECORD_WORDS;
+use session_text::names;
+use session_text::numbers::four;
+use session_text::numbers::set;
+use session_text::numbers::word;
+use session_text::printing;
 ghost use Prim.Native.Nat.{_≤_};
 ghost use mathlib.Core.Path.{_≡_};
 ghost use lib.ListN.{length};
-
-// Every word of an answer and of a list before a call: a number that no case has elsewhere.
-pub const LENT: u64 = 9009;
-
-// The most words and entries: those of a store of one record more than the most, and one entry more than it can need.
-pub const MOST_WORDS: usize = HEADER_WORDS + RECORD_WORDS * (MOST_RECORDS + 1);
-
-pub const MOST_ELECTED: usize = MOST_RECORDS + 1;
-
-pub const MOST_MOVED: usize = 2 * MOST_RECORDS + 1;
 
 // How many words and entries are lent, and what is shown of the store after a call.
 pub struct Desk {

@@ -27,13 +27,9 @@
 //                       count, the stops that changed by rising sequence, and the sequence of each that is gone
 mod lending;
 mod listed;
-mod names;
-mod numbers;
 mod path_lines;
-mod printing;
 mod reading;
 mod running;
-mod shown;
 mod store_lines;
 mod term_lines;
 

@@ -1,17 +1,17 @@
 // Lines that evaluate a store, and the lists that they lend: every word of these is the same before a call, so that
 // all that the call wrote is printed, and an entry behind the last that it lists as well, should it write there.
-use crate::lending::LENT;
-use crate::lending::MOST_ELECTED;
-use crate::lending::MOST_MOVED;
-use crate::names;
-use crate::numbers::four;
-use crate::numbers::rest;
-use crate::numbers::two;
-use crate::printing;
 use book::ELECTED_WORDS;
 use book::ElectedWords;
 use book::MOVED_WORDS;
 use book::MovedWords;
+use session_text::lent::LENT;
+use session_text::lent::MOST_ELECTED;
+use session_text::lent::MOST_MOVED;
+use session_text::names;
+use session_text::numbers::four;
+use session_text::numbers::rest;
+use session_text::numbers::two;
+use session_text::printing;
 use yubtomiq::yubtomiq_evaluate_pending_stops;
 use yubtomiq::yubtomiq_run_stop_triggers;
 use yubtomiq::yubtomiq_segment;

@@ -1,10 +1,10 @@
 // Lines that take the print path alone.
-use crate::lending::LENT;
-use crate::names;
-use crate::numbers::rest;
-use crate::numbers::two;
-use crate::numbers::word;
-use crate::printing;
+use session_text::lent::LENT;
+use session_text::names;
+use session_text::numbers::rest;
+use session_text::numbers::two;
+use session_text::numbers::word;
+use session_text::printing;
 use yubtomiq::yubtomiq_record_print;
 use yubtomiq::yubtomiq_reset_path;
 use yubtomiq::yubtomiq_take_path;

@@ -1,9 +1,10 @@
 // Standard input as lines, read in blocks; the beginning of a line that a block leaves is kept for the next.
 use crate::lending;
 use crate::lending::Desk;
-use crate::numbers::place_of;
-use crate::printing;
 use crate::running;
+use session_text::lent::MOST_WORDS;
+use session_text::numbers::place_of;
+use session_text::printing;
 ghost use Prim.Native.Nat.{_+_, _-_, _≤_};
 ghost use mathlib.Core.Path.{_≡_};
 ghost use lib.ListN.{length};
@@ -99,7 +100,7 @@ fn blocks(text: &mut [u8], words: &mut [u64], path: &mut [u64; 4]) -> usize {
 // Runs every line of standard input. A line that does not end, or is longer than a block, is not run.
 pub fn session() {
     let mut text = io::large_buffer();
-    let mut words = [0u64; lending::MOST_WORDS];
+    let mut words = [0u64; MOST_WORDS];
     let mut path = [0u64; 4];
     let left = blocks(&mut text, &mut words, &mut path);
     if left > 0 {

@@ -2,13 +2,14 @@
 use crate::lending;
 use crate::lending::Desk;
 use crate::listed;
-use crate::names;
-use crate::numbers;
 use crate::path_lines;
-use crate::printing;
-use crate::shown;
 use crate::store_lines;
 use crate::term_lines;
+use session_text::lent::MOST_WORDS;
+use session_text::names;
+use session_text::numbers;
+use session_text::printing;
+use session_text::shown;
 
 // A call that may alter the store.
 fn alter(call: u64, s: &mut [u64], path: &mut [u64; 4], n: &[u64], desk: Desk) {
@@ -21,7 +22,7 @@ fn alter(call: u64, s: &mut [u64], path: &mut [u64; 4], n: &[u64], desk: Desk) {
 
 // The same, and what it did to the store.
 fn watch(call: u64, s: &mut [u64], path: &mut [u64; 4], n: &[u64], desk: Desk) {
-    let mut before = [0u64; lending::MOST_WORDS];
+    let mut before = [0u64; MOST_WORDS];
     lending::copy(&s[..], &mut before);
     alter(call, s, path, n, desk);
     shown::show(desk.show, &s[..], &before);
@@ -63,7 +64,7 @@ fn call(call: u64, words: &mut [u64], path: &mut [u64; 4], n: &[u64], desk: Desk
 
 // Reads a name and numbers, and calls.
 fn read(text: &[u8], words: &mut [u64], path: &mut [u64; 4], desk: Desk) -> Desk {
-    let mut room = [0u64; lending::MOST_WORDS];
+    let mut room = [0u64; MOST_WORDS];
     let n: &mut [u64] = &mut room;
     let end = numbers::place_of(text, 0, b' ');
     let count = numbers::read(text, end, n);

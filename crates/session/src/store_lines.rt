@@ -1,15 +1,15 @@
 // Lines that lay out, ask and change a store.
-use crate::lending::LENT;
-use crate::names;
-use crate::numbers::four;
-use crate::numbers::rest;
-use crate::numbers::set;
-use crate::numbers::three;
-use crate::numbers::two;
-use crate::numbers::word;
-use crate::printing;
 use book::DATA_WORDS;
 use book::MOST_RECORDS;
+use session_text::lent::LENT;
+use session_text::names;
+use session_text::numbers::four;
+use session_text::numbers::rest;
+use session_text::numbers::set;
+use session_text::numbers::three;
+use session_text::numbers::two;
+use session_text::numbers::word;
+use session_text::printing;
 use yubtomiq::yubtomiq_admit_trailing_stop;
 use yubtomiq::yubtomiq_cancel_pending_stop;
 use yubtomiq::yubtomiq_clear;

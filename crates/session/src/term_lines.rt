@@ -1,12 +1,12 @@
 // Lines that take values alone: terms, limit, collar and child.
-use crate::lending::LENT;
-use crate::names;
-use crate::numbers::four;
-use crate::numbers::rest;
-use crate::numbers::three;
-use crate::numbers::two;
-use crate::numbers::word;
-use crate::printing;
+use session_text::lent::LENT;
+use session_text::names;
+use session_text::numbers::four;
+use session_text::numbers::rest;
+use session_text::numbers::three;
+use session_text::numbers::two;
+use session_text::numbers::word;
+use session_text::printing;
 use yubtomiq::yubtomiq_calculate_trailing_stop_price;
 use yubtomiq::yubtomiq_check_collar;
 use yubtomiq::yubtomiq_check_tick_size;

@@ -2,8 +2,8 @@
 use mathlib.Core.Path.{sym, _∙_}
 use native.Mathlib.Omega.{arith}
 use lib.Seq.{length-take-le}
-use Rattle.forecasting.specs.Input.{wordsOf}
-use Rattle.forecasting.proofs.Split.{store-most, prices-most}
+use Rattle.forecast_input.specs.Input.{wordsOf}
+use Rattle.forecast_input.proofs.Split.{store-most, prices-most}
 use borrow.Author.Needs.{needs}
 use Rattle.forecasting.proofs.forecast.Statement.{statement}
 use Rattle.forecasting.proofs.forecast.Tie as tie

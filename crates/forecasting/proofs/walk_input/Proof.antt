@@ -1,8 +1,8 @@
 -- `forecasting::walk_input` meets its contract: the words that are read are the store's and the prices.
 use native.Mathlib.Omega.{arith}
 use Rattle.forecasting.proofs.Walked.{walked-as}
-use Rattle.forecasting.proofs.WordCounts.{store-inside, prices-inside, store-read, prices-read}
-use Rattle.forecasting.proofs.Split.{prices-few}
+use Rattle.forecast_input.proofs.WordCounts.{store-inside, prices-inside, store-read, prices-read}
+use Rattle.forecast_input.proofs.Split.{prices-few}
 use borrow.Author.Needs.{needs}
 use Rattle.forecasting.proofs.walk_input.Statement.{statement}
 use Rattle.forecasting.proofs.walk_input.Tie as tie

@@ -1,6 +1,7 @@
 -- `pending_stops::occupy` meets its contract.
 use Prim.Native.Nat.{_<_, _^_}
 use native.Mathlib.Omega.{arith}
+use mathlib.Core.Path.{refl}
 use lib.ListN.{length-set}
 use Rattle.book.specs.Store.{admitted, newEntry}
 use Rattle.book.specs.Chains.{chainsOf}
@@ -36,7 +37,7 @@ pop-requires c κs =
       chainsOf b,
       _,
       _,
-      occupying-chained _ _ b r st (a .room),
+      occupying-chained _ _ b r st (a .room) _ _,
       free-first _ _ b r st (a .room),
     )
 
@@ -44,7 +45,7 @@ write-entry-requires : tie.Need-write-entry-requires
 write-entry-requires c κs =
     let taken = c .before .before .before in
     let (b, r, st, a, last) = taken .before .before .before .before .before .pre in
-    occupying-record _ _ b r st _ _ _ a _ (taken .pop .ensures .0) _ (taken .pop .ensures .1)
+    occupying-record _ _ b r st _ _ _ a _ _ _ (taken .pop .ensures .0) _ (taken .pop .ensures .1)
 
 link-requires : tie.Need-link-requires
 link-requires c κs =
@@ -52,7 +53,7 @@ link-requires c κs =
     let taken = stored .before .before .before .before in
     let (b, r, st, a, last) = taken .before .before .before .before .before .pre in (
       chainsWithout _ (admitted (newEntry _ _ _ b) b),
-      occupying-ready _ _ b r st _ _ _ a _ (taken .pop .ensures .0) _ (taken .pop .ensures .1) _
+      occupying-ready _ _ b r st _ _ _ a _ _ _ (taken .pop .ensures .0) _ (taken .pop .ensures .1) _
           (stored .write-entry .ensures),
     )
 
@@ -62,7 +63,7 @@ same-length c =
     let stored = linked .before .before .before .before in
     let taken = stored .before .before .before .before in
     let (b, r, st, a, last) = taken .before .before .before .before .before .pre in
-    occupied-length _ _ b r st _ _ _ a _ (taken .pop .ensures .0) _ (taken .pop .ensures .1) _
+    occupied-length _ _ b r st _ _ _ a _ _ _ (taken .pop .ensures .0) _ (taken .pop .ensures .1) _
     (stored .write-entry .ensures) _ (linked .link .ensures .0)
 
 returns : tie.Need-returns
@@ -74,7 +75,7 @@ returns c =
     let start = taken .before .before .before .before .before in
     λ b r st a last. (
       next-word _ _ b r st (a .room),
-      occupied-stored _ _ b r st _ _ _ a _ (taken .pop .ensures .0) _ (taken .pop .ensures .1) _
+      occupied-stored _ _ b r st _ _ _ a _ _ _ (taken .pop .ensures .0) _ (taken .pop .ensures .1) _
           (stored .write-entry .ensures)
           (record {
             high = omega (arith, start .good);
@@ -85,7 +86,7 @@ returns c =
             quantity = omega (arith, start .good);
             seq = st .fits .next;
           })
-          last _ (linked .link .ensures .0) (linked .link .ensures .1),
+          last refl refl _ (linked .link .ensures .0) (linked .link .ensures .1),
     )
 
 pub occupy-spec : {M : Type 1} → statement M

@@ -49,8 +49,7 @@ add-moves c =
     let l = p .before .before .before .before .before .before in
     let (b, r, st, room) = l .before .before .before .before .before .before .pre .0 in
     let i = p .before .before .before .before .before .loop-test .taken in
-    let few = point-moves-few (l .loop .inv) i _ _
-    (rw (p .before .before .sells-first .ensures) at (p .point .ensures)) st in
+    let few = point-moves-few (l .loop .inv) _ _ _ _ (p .point .ensures) st in
     record {
       fits = omega (arith, few, l .loop .inv .few-moves, i, l .before .before .before .before .before .before .pre .1);
     }

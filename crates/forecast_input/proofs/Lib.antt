@@ -1,0 +1,4 @@
+pub mod FirstBytes
+pub mod WordCounts
+pub mod Split
+pub mod Words
