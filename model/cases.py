@@ -1,7 +1,7 @@
 #!/usr/bin/env python3
-"""Writes the lines of store_tests, evaluation_tests and forecast_cases, and what the model answers.
+"""Writes the lines of call_cases and forecast_cases, and what the model answers.
 
-    model/cases.py        # stdin and stdout of these three crates"""
+    model/cases.py        # stdin and stdout of these two crates"""
 import os
 
 import evaluation_cases
@@ -19,6 +19,5 @@ def write(crate, lines, answers):
             out.write(text)
 
 
-write("store_tests", store_cases.lines(), session.answers)
-write("evaluation_tests", evaluation_cases.lines(), session.answers)
+write("call_cases", store_cases.lines() + evaluation_cases.lines(), session.answers)
 write("forecast_cases", forecast.lines(), forecast.answers)

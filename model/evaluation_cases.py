@@ -1,4 +1,4 @@
-"""The cases of evaluation_tests as session lines: document 01's examples on runs, ratchets, limits, children, passes, refusals and runs over
+"""The calls that evaluate, as session lines of call_cases: document 01's examples on runs, ratchets, limits, children, passes, refusals and runs over
 path and store; and evaluations by chance."""
 import book
 from chance import Chance
@@ -261,4 +261,4 @@ def most():
 
 
 def lines():
-    return ["lists 5 9", *examples(), *segments(), *children(), *passes(), *refusals(), *runs(), *by_chance(), *most()]
+    return ["path 0 0 0 0", "lists 5 9", *examples(), *segments(), *children(), *passes(), *refusals(), *runs(), *by_chance(), *most()]

@@ -1,7 +1,7 @@
 #!/usr/bin/env python3
 """What the crate `session` must print: one line for each line of text, as crates/session/src/lib.rt describes them, by the calls of book.py.
 
-    model/session.py < crates/store_tests/stdin > crates/store_tests/stdout"""
+    model/session.py < crates/call_cases/stdin > crates/call_cases/stdout"""
 import sys
 
 import book

@@ -1,4 +1,4 @@
-"""The cases of store_tests as session lines: those of store_cases.txt, values that no call knows, and sessions by chance.
+"""The calls on the store and on values alone, as session lines of call_cases: those of store_cases.txt, values that no call knows, and sessions by chance.
 
 A line of store_cases.txt is a line of a session, written for readers: sides and changes by name, the last trade and the kill switch where
 there are any, and a note in brackets, which becomes a line of its own. Two lines stand for many: `break P V ..` sets words, asks every call
