@@ -3,9 +3,9 @@
 -- own, whatever the other parameters are, if what the core leaves and says is what the function does.
 use mathlib.Core.Path.{_≡_, refl, sym, ap, subst}
 use mathlib.Core.List.{List, [], _∷_, _++_, map}
-use Prim.Native.Nat.{ℕ, suc}
+use Prim.Native.Nat.{ℕ, suc, _<_, _^_}
 use lib.Dec.{T as Holds}
-use mir.Syntax.{Name, Ty, Local, Fn, Body, Opd, Place, local, seq, return, call}
+use mir.Syntax.{Name, Ty, Local, Fn, Body, Opd, Place, local, erased, mut, tyRef, tyUnit, seq, return, call}
 use mir.Val.{hasTy, WT}
 use base.Logic.{sep, comm∗, monoL}
 use base.Stored.{Gv}
@@ -26,6 +26,7 @@ use borrow.Fn.Frame.{locs, EnvOf}
 use denote.RattleType.{RattleType, Denots, Valss, flat}
 use denote.Laws.{Is, Tells, Ises, Are, valss, shows}
 use denote.Memory.{mem}
+use denote.Slice.{sliceTy, sliceVal}
 use denote.Signature.{typeAt, typesAt}
 use denote.Steps.{only, peeks, said}
 use denote.Triple.Entry.{Args}
@@ -53,6 +54,11 @@ abbrev pub Fit : List Ty → List Val → Type 0
 Fit τs [] = Unit {0}
 Fit [] (v ∷ vs) = ⊥
 Fit (τ ∷ τs) (v ∷ vs) = (Holds (hasTy τ v) × WT v) × Fit τs vs
+
+-- a slice's machine value is of its type, whatever it points to, where its count fits
+pub slice-fits : {m : ℕ} → m < 2 ^ 64
+    → Holds (hasTy (sliceTy (tyRef erased mut tyUnit)) (sliceVal (0, 0) m)) × WT (sliceVal (0, 0) m)
+slice-fits l = (tt, (tt, (record { fits = l }, tt)))
 
 abbrev tyOf : Local → Ty
 tyOf (local τ h) = τ
