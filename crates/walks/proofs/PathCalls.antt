@@ -1,7 +1,7 @@
 -- A call on a lent print path: the path is copied, a core by value is called with the copy and the other parameters, the
 -- path that comes back is stored, and the rest is answered. Such a function meets its contract where the core meets its
 -- own, whatever the other parameters are, if what the core leaves and says is what the function does.
-use mathlib.Core.Path.{_≡_, refl, sym, ap, subst}
+use mathlib.Core.Path.{_≡_, refl, sym, subst}
 use mathlib.Core.List.{List, [], _∷_, _++_, map}
 use Prim.Native.Nat.{ℕ, suc, _<_, _^_}
 use lib.Dec.{T as Holds}
@@ -23,12 +23,12 @@ use types.SemTy.{Body as Within}
 use sound.WpLaws.{fmOf, write-fm}
 use borrow.Table.Row.{hd, tl}
 use borrow.Fn.Frame.{locs, EnvOf}
-use denote.RattleType.{RattleType, Denots, Valss, flat}
-use denote.Laws.{Is, Tells, Ises, Are, valss, shows}
+use denote.RattleType.{Denots, Valss, flat}
+use denote.Laws.{Is, Ises, Are, valss, shows}
 use denote.Memory.{mem}
 use denote.Slice.{sliceTy, sliceVal}
-use denote.Signature.{typeAt, typesAt}
-use denote.Steps.{only, peeks, said}
+use denote.Signature.{typesAt}
+use denote.Steps.{peeks, said}
 use denote.Triple.Entry.{Args}
 use denote.Triple.Spec.{Back}
 use denote.Triple.Clauses.{Ended, Clauses, Lasts, atExit, closing, ensured}
@@ -36,14 +36,13 @@ use Rattle.book.specs.declared.PrintPath.{PrintPath}
 use Rattle.walks.proofs.Frame.{Cell, room, Here, locals, all-release}
 use Rattle.walks.proofs.Lent.{cell, lets-go, shuts}
 use Rattle.walks.proofs.Params.{Param, slots, spelled, told, ended, value as by-value}
-use Rattle.walks.proofs.Plain.{Stands, rows, Held}
+use Rattle.walks.proofs.Plain.{Stands, value as valued, stands, rows, Held}
 use Rattle.walks.proofs.Types.{PathOf}
 use Rattle.walks.proofs.WalkSteps.{URA, fullShare, Val, SProp, ent, emp, id⊢, via, fst∗, Lft, Share, fat, flft, fobs}
 use Rattle.walks.proofs.WalkSteps.{Routine, Heap, Calls, Loops, WpFn, Atoms, givenOf, tables, tablesOf, Given, ‵, raw}
 use Rattle.walks.proofs.WalkSteps.{_⊛_, ⋆, _$_, _∵_, !, qed, by, move, keep, drop, split, join, frame, done, look, init}
 use Rattle.walks.proofs.WalkSteps.{returns, enter, alloc1, alloc0, params1, pass1, pass0, FmC, owns, RefT, plain}
 use Rattle.walks.proofs.WalkSteps.{onEntry, tripleOf, Contract, Triple, calls-at, lasts, entered, cited}
-
 pub use Rattle.walks.proofs.Frame.{full}
 pub use Rattle.walks.proofs.Lent.{has, reads, asks, asks-with}
 pub use Rattle.walks.proofs.Params.{numbers, lent, lent-struct}
@@ -118,10 +117,13 @@ pub fits : {M : Type 1} (𝓤 : URA M) (H : Heap 𝓤) (A : Atoms 𝓤) → Give
 fits 𝓤 H A W [] a are = tt
 fits 𝓤 H A W (P ∷ Ps) a are = (P .typed 𝓤 H A W (a .0) _ (are .0), fits 𝓤 H A W Ps (a .1) (are .1))
 
--- ---- the law
-module _ (n : ℕ) (Ps : List (Param n)) (P : Plain) (core : Ended) (f : Fn) where
+-- ---- the law: of a function with the parameters Ps that answers a P, over a core with the parameters Ps′ that answers a Q
+module _ (n : ℕ) (Ps : List (Param n)) (P : Plain) (n′ : ℕ) (Ps′ : List (Param n′)) (Q : Plain) (f : Fn) where
   abbrev T : Ended
   T = ended n Ps (plain (λ _. P .row))
+
+  abbrev T′ : Ended
+  T′ = ended n′ Ps′ (plain (λ _. Q .row))
 
   -- the types of the locals after the result
   abbrev τs : List Ty
@@ -131,7 +133,7 @@ module _ (n : ℕ) (Ps : List (Param n)) (P : Plain) (core : Ended) (f : Fn) whe
   code = record { lifetimes = n; outlives = []; params = f .params; locals = locs (P .mir ∷ τs) []; body = f .body }
 
   module _ {M : Type 1} (𝓤 : URA M) (H : Heap 𝓤) (𝓜 : Model 𝓤 H) (𝓖 : GhostRules 𝓤 H) (𝓡 : Running 𝓤 H 𝓜)
-      (c : Clauses 𝓤 T) (c′ : Clauses 𝓤 core) (γ : Routines) (k : Name) where
+      (c : Clauses 𝓤 T) (c′ : Clauses 𝓤 T′) (γ : Routines) (k : Name) where
     abbrev A : Atoms 𝓤
     A = 𝓖 .A
 
@@ -148,10 +150,7 @@ module _ (n : ℕ) (Ps : List (Param n)) (P : Plain) (core : Ended) (f : Fn) whe
     Whole = tripleOf 𝓤 H A (T .signature) (closing 𝓤 H A T c)
 
     abbrev Core : Contract 𝓤
-    Core = tripleOf 𝓤 H A (core .signature) (closing 𝓤 H A core c′)
-
-    abbrev Answer : Core .Ghost → RattleType
-    Answer to = typeAt (core .signature .result) (to .0 .0)
+    Core = tripleOf 𝓤 H A (T′ .signature) (closing 𝓤 H A T′ c′)
 
     module _ (κs : Lfts n) (qs : Shares n) (a : Args (T .signature) κs) (g : c κs a .ghost) where
       abbrev at : Valss (typesAt (slots n Ps) κs)
@@ -167,23 +166,26 @@ module _ (n : ℕ) (Ps : List (Param n)) (P : Plain) (core : Ended) (f : Fn) whe
       abbrev Due : Val → SProp 𝓤
       Due = Whole .post ((κs, qs, tt, a, at), g)
 
-      -- at the path's reference, at what the core is called with, and how its answer is spelled
-      module _ (x : RefT PrintPath) (κ : Lft) (q : Share) (to : Core .Ghost) (val : Answer to .Denot → Val)
-          (tells : Tells (Answer to) (Is (Answer to)) (λ d. val d ∷ [])) where
+      -- at the path's reference, and at what the core is called with
+      module _ (x : RefT PrintPath) (κ : Lft) (q : Share) (κs′ : Lfts n′) (qs′ : Shares n′) (a′ : Args (T′ .signature) κs′)
+          (g′ : c′ κs′ a′ .ghost) where
+        abbrev to : Core .Ghost
+        to = ((κs′, qs′, tt, a′, valss (typesAt (slots n′ Ps′) κs′) (spelled n′ κs′ Ps′) a′), g′)
+
         abbrev Left : Type 0
-        Left = Lasts core (to .0 .0) (to .0 .3)
+        Left = Lasts T′ κs′ a′
 
         abbrev tokens : Item 𝓤
-        tokens = raw (toks 𝓤 A (core .signature .lifetimes) (to .0 .0) (to .0 .1))
+        tokens = raw (toks 𝓤 A n′ κs′ qs′)
 
         abbrev left : Left → Item 𝓤
-        left zs = ‵ (lasts core (to .0 .0) (to .0 .3) zs)
+        left zs = ‵ (lasts T′ κs′ a′ zs)
 
-        abbrev Said : Answer to .Denot → Left → SProp 𝓤
-        Said d zs = c′ (to .0 .0) (to .0 .3) .ensures (to .1) d (atExit core (to .0 .0) (to .0 .3) zs)
+        abbrev Said : Q .row .Denot → Left → SProp 𝓤
+        Said d zs = c′ κs′ a′ .ensures g′ d (atExit T′ κs′ a′ zs)
 
         -- what the core gives beside its answer: tokens, what it leaves of what was lent to it, and what it says
-        abbrev Rest : Answer to .Denot → Left → Item 𝓤
+        abbrev Rest : Q .row .Denot → Left → Item 𝓤
         Rest d zs = tokens ⊛ left zs ⊛ raw (Said d zs)
 
         abbrev coded : PrintPath → Gv
@@ -196,47 +198,48 @@ module _ (n : ℕ) (Ps : List (Param n)) (P : Plain) (core : Ended) (f : Fn) whe
           abbrev E : Env 𝓤 H
           E = EnvOf 𝓤 H (P .mir ∷ τs) bs
 
-          abbrev return-due : Post 𝓤 H
-          return-due = atRet E Due
+          abbrev at-return : Post 𝓤 H
+          at-return = atRet E Due
 
           -- the core is called
           pub record Calling : Type 2 where
             pub calls : {Γ : List (Item 𝓤)} {os : List Opd} {y : Place} {rest : Body}
                 → Opds Go W (raw (Core .pre to) ∷ Γ) E os (Core .args to)
-                → ((d : Answer to .Denot) (zs : Left) → Is (Answer to) d (val d ∷ [])
-                → Sq W (Rest d zs ∷ Γ) (lands C Λ E y (val d) rest return-due))
-                → Sq W (raw (Core .pre to) ∷ Γ) (runs C Λ E (seq (call k os y) rest) return-due)
+                → ((d : Q .row .Denot) (zs : Left) → Stands Q d
+                → Sq W (Rest d zs ∷ Γ) (lands C Λ E y (Q .val d) rest at-return))
+                → Sq W (raw (Core .pre to) ∷ Γ) (runs C Λ E (seq (call k os y) rest) at-return)
 
           -- the function returns r, where the path has become h: the borrow is closed, the locals are freed, and what the
           -- core leaves and says is what the function leaves and says
           abbrev Ending : Type 2
-          Ending = (d : Answer to .Denot) (zs : Left) (r : P .row .Denot) → Stands P r → (h : PrintPath) → Stands PathOf h
+          Ending = (d : Q .row .Denot) (zs : Left) (r : P .row .Denot) → Stands P r → (h : PrintPath) → Stands PathOf h
               → (ws : Lasts T κs a)
               → Sq W (‵ (fres (x .name) (coded h)) ∷ ‵ (flft κ q) ∷ tokens ∷ left zs ∷ [])
               (prop (sep 𝓤 (toks 𝓤 A n κs qs) (sem 𝓤 H A (lasts T κs a ws))))
               → ent 𝓤 (Said d zs) (c κs a .ensures g r (atExit T κs a ws))
               → (cs : List Cell) → Here cs → (m : ℕ)
               → nth 𝓤 H A m (locals 𝓤 H E (full (P .val r) ∷ cs) []) ≡ ‵ (fat fullShare (P .mir) (hd 0 bs) 0 (P .val r))
-              → Sq W (‵ (cell PathOf h (x .ptr .0) (x .ptr .1)) ∷ ‵ (fobor κ q borrowed) ∷ ‵ (fobs (x .name) (coded (x .now)))
+              → Sq W (‵ (cell PathOf h (x .ptr .0) (x .ptr .1)) ∷ ‵ (fobor κ q borrowed)
+              ∷ ‵ (fobs (x .name) (coded (x .now)))
               ∷ ‵ (fauth (x .name) (coded (x .now))) ∷ Rest d zs ∷ locals 𝓤 H E (full (P .val r) ∷ cs) [])
-              (runs C Λ E return return-due)
+              (runs C Λ E return at-return)
 
           module _ (fm : FmC 𝓤 H (W .laws) C) (known : Triple 𝓤 (C k) Core) where
             calling : Calling
             calling = record {
               calls = λ {Γ} {os} {y} {rest} xs go. calls-at ! fm Core known to xs (λ v.
-                  use1 W (later (some (λ (d : Answer to .Denot). (tokens ⊛ ‵ (Answer to .own d (v ∷ [])))
+                  use1 W (later (some (λ (d : Q .row .Denot). (tokens ⊛ ‵ (Q .row .own d (v ∷ [])))
                   ⊛ some (λ (zs : Left). left zs ⊛ raw (Said d zs))))) (id⊢ 𝓤 _) $ await ! tt $ pick ! (λ d. split ! $
                   move ! (1 ∷ []) $ pick ! (λ zs. move ! (1 ∷ []) $ split ! $ move ! (1 ∷ []) $
-                  peeks ! (Answer to) (Is (Answer to)) (shows 𝓤 H A (Answer to)) d (v ∷ []) (λ is. drop ! $ join ! $
-                  subst (λ (u : Val). Sq W (Rest d zs ∷ Γ) (lands C Λ E y u rest return-due))
-                  (sym (ap only (tells d (v ∷ []) is))) (go d zs (subst (Is (Answer to) d) (tells d (v ∷ []) is) is))))));
+                  peeks ! (Q .row) (Is (Q .row)) (shows 𝓤 H A (Q .row)) d (v ∷ []) (λ is. drop ! $ join ! $
+                  subst (λ (u : Val). Sq W (Rest d zs ∷ Γ) (lands C Λ E y u rest at-return)) (sym (valued Q d v is))
+                  (go d zs (stands Q d v is))))));
             }
 
             ending : Ending
             ending d zs r is h is′ ws leaves says cs here m e =
                 let Shut : List (Item 𝓤) =
-                    ‵ (fobs (x .name) (coded h)) ∷ ‵ (fbor κ borrowed) ∷ ‵ (flft κ q) ∷ Rest d zs ∷ [] in
+                ‵ (fobs (x .name) (coded h)) ∷ ‵ (fbor κ borrowed) ∷ ‵ (flft κ q) ∷ Rest d zs ∷ [] in
                 shuts PathOf ! tt h (x .ptr .0) (x .ptr .1) is′ $ returns ! (look ! (suc (suc (suc (suc m)))) e) $
                 by ! (freed 𝓤 H A W Shut E (full (P .val r) ∷ cs) here (Due (P .val r))
                 (qed W Shut ∵ lets-go PathOf ! h $ move ! (3 ∷ []) $ split3 ! $ move ! (3 ∷ 5 ∷ 0 ∷ 1 ∷ []) $
@@ -250,16 +253,25 @@ module _ (n : ℕ) (Ps : List (Param n)) (P : Plain) (core : Ended) (f : Fn) whe
                 show ! (λ (z : Lasts T κs a). sep 𝓤 (sem 𝓤 H A (lasts T κs a z)) (c κs a .ensures g r (atExit T κs a z)))
                 ws $ keep ! (1 ∷ 0 ∷ []) $ done !))
 
-        -- the code, between entry and exit
         abbrev Walk : Type 2
-        Walk = Fit τs vs × ((bs : List ℕ) → Calling bs → Ending bs
-            → Sq W (locals 𝓤 H (E bs) (room ∷ map full vs) Had) (runs C Λ (E bs) (f .body) (return-due bs)))
+        Walk = (bs : List ℕ) → Calling bs → Ending bs
+            → Sq W (locals 𝓤 H (E bs) (room ∷ map full vs) Had) (runs C Λ (E bs) (f .body) (at-return bs))
+
+      -- the code, between entry and exit
+      pub data Walked : Type 2 where
+        walked : (x : RefT PrintPath) (κ : Lft) (q : Share) (κs′ : Lfts n′) (qs′ : Shares n′) (a′ : Args (T′ .signature) κs′)
+            (g′ : c′ κs′ a′ .ghost) → Fit τs vs → Walk x κ q κs′ qs′ a′ g′
+            → Walked
+
+      entered-at : Walked → FmC 𝓤 H (W .laws) C → Triple 𝓤 (C k) Core → ent 𝓤 (⋆ 𝓤 H A Had) (WpFn 𝓤 H C Λ code vs Due)
+      entered-at (walked x κ q κs′ qs′ a′ g′ fit walk) fm known =
+          qed W Had ∵ enter ! C Λ code vs Due $ allocates ! (P .mir ∷ τs) (λ bs. params1 ! $
+          passes-all ! (‵ (froom (P .mir) (hd 0 bs) 0) ∷ ‵ (fdies (P .mir) (hd 0 bs)) ∷ Had) τs (tl bs) vs fit $
+          walk bs (calling x κ q κs′ qs′ a′ g′ bs fm known) (ending x κ q κs′ qs′ a′ g′ bs fm known))
 
     pub meets : (j : Name) → Closed 𝓤 H C Λ j code → (s : Routine) → γ k ≡ s → Triple 𝓤 (𝓡 .run s) Core
         → ((κs : Lfts n) (qs : Shares n) (a : Args (T .signature) κs) (g : c κs a .ghost)
-        → Are (typesAt (slots n Ps) κs) (Ises (typesAt (slots n Ps) κs)) a (at κs qs a g)
-        → (x : RefT PrintPath) × (κ : Lft) × (q : Share) × (to : Core .Ghost) × (val : Answer to .Denot → Val)
-        × (tells : Tells (Answer to) (Is (Answer to)) (λ d. val d ∷ [])) × Walk κs qs a g x κ q to val tells)
+        → Are (typesAt (slots n Ps) κs) (Ises (typesAt (slots n Ps) κs)) a (at κs qs a g) → Walked κs qs a g)
         → Triple 𝓤 (C j) Whole
     unfolding tablesOf
     meets j unfolded s is met walks = entered 𝓤 H Whole C Λ j code unfolded (λ y.
@@ -269,12 +281,6 @@ module _ (n : ℕ) (Ps : List (Param n)) (P : Plain) (core : Ended) (f : Fn) whe
         let g = y .1 in
         via 𝓤 (onEntry 𝓤 H A (T .signature) κs qs a (y .0 .4)) (fst∗ 𝓤 _ (c κs a .requires g))
         (said 𝓤 H A (T .signature) κs qs (spelled n κs Ps) (told n κs Ps) a
-        (λ us. WpFn 𝓤 H C Λ code (flat (typesAt (slots n Ps) κs) us) (Whole .post ((κs, qs, tt, a, us), g))) (y .0 .4) (λ are.
-        let w = walks κs qs a g are in
-        let fm = fmOf 𝓤 H (W .laws) (tablesOf 𝓤 H 𝓜 (tables 𝓤 H 𝓜 𝓡 γ)) in
-        let known = cited 𝓤 H Core 𝓜 𝓡 γ k s is met in
-        qed W (Had κs qs a g) ∵ enter ! C Λ code (vs κs qs a g) _ $ allocates ! (P .mir ∷ τs) (λ bs. params1 ! $
-        passes-all ! (‵ (froom (P .mir) (hd 0 bs) 0) ∷ ‵ (fdies (P .mir) (hd 0 bs)) ∷ Had κs qs a g) τs (tl bs)
-        (vs κs qs a g) (w .6 .0) $
-        w .6 .1 bs (calling κs qs a g (w .0) (w .1) (w .2) (w .3) (w .4) (w .5) bs fm known)
-        (ending κs qs a g (w .0) (w .1) (w .2) (w .3) (w .4) (w .5) bs fm known)))))
+        (λ us. WpFn 𝓤 H C Λ code (flat (typesAt (slots n Ps) κs) us) (Whole .post ((κs, qs, tt, a, us), g))) (y .0 .4)
+        (λ are. entered-at κs qs a g (walks κs qs a g are) (fmOf 𝓤 H (W .laws) (tablesOf 𝓤 H 𝓜 (tables 𝓤 H 𝓜 𝓡 γ)))
+        (cited 𝓤 H Core 𝓜 𝓡 γ k s is met))))
