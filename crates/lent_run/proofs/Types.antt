@@ -1,5 +1,5 @@
 -- The types of a run as a walk uses them, and what a run says of its two fields.
-use mathlib.Core.Path.{_≡_, refl}
+use mathlib.Core.Path.{refl}
 use denote.Struct.Laws.{owed, owes}
 use Rattle.book.specs.declared.LastPrice.{LastPrice}
 use Rattle.book.specs.declared.PrintPath.{PrintPath}
@@ -29,9 +29,3 @@ start-stands path trade is₁ is₂ = owes start.the-type start′.the-laws (rec
   path = path;
   trade = trade;
 }) (is₁, (is₂, tt))
-
-pub start-is : (r : Start) (path : PrintPath) (trade : LastPrice) → (r .path ≡ path) × (r .trade ≡ trade) → r ≡ record {
-  path = path;
-  trade = trade;
-}
-start-is r path trade e = rw (e .0, e .1)

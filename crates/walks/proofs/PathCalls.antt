@@ -23,9 +23,9 @@ use types.SemTy.{Body as Within}
 use sound.WpLaws.{fmOf, write-fm}
 use borrow.Table.Row.{hd, tl}
 use borrow.Fn.Frame.{locs, EnvOf}
-use denote.RattleType.{Denots, Valss, flat}
+use denote.RattleType.{RattleType, Valss, flat}
 use denote.Laws.{Is, Ises, Are, valss, shows}
-use denote.Memory.{mem}
+use denote.Memory.{mem, pointee}
 use denote.Slice.{sliceTy, sliceVal}
 use denote.Signature.{typesAt}
 use denote.Steps.{peeks, said}
@@ -35,7 +35,7 @@ use denote.Triple.Clauses.{Ended, Clauses, Lasts, atExit, closing, ensured}
 use Rattle.book.specs.declared.PrintPath.{PrintPath}
 use Rattle.walks.proofs.Frame.{Cell, room, Here, locals, all-release}
 use Rattle.walks.proofs.Lent.{cell, lets-go, shuts}
-use Rattle.walks.proofs.Params.{Param, slots, spelled, told, ended, value as by-value}
+use Rattle.walks.proofs.Params.{Fit, Param, slots, spelled, told, mirs, fits, ended}
 use Rattle.walks.proofs.Plain.{Stands, value as valued, stands, rows, Held}
 use Rattle.walks.proofs.Types.{PathOf}
 use Rattle.walks.proofs.WalkSteps.{URA, fullShare, Val, SProp, ent, emp, id⊢, via, fst∗, Lft, Share, fat, flft, fobs}
@@ -45,22 +45,8 @@ use Rattle.walks.proofs.WalkSteps.{returns, enter, alloc1, alloc0, para
 use Rattle.walks.proofs.WalkSteps.{onEntry, tripleOf, Contract, Triple, calls-at, lasts, entered, cited}
 pub use Rattle.walks.proofs.Frame.{full}
 pub use Rattle.walks.proofs.Lent.{has, reads, asks, asks-with}
-pub use Rattle.walks.proofs.Params.{numbers, lent, lent-struct}
+pub use Rattle.walks.proofs.Params.{slice-fits, value, numbers, lent, lent-struct, values}
 pub use Rattle.walks.proofs.Plain.{Plain, valsOf, word, flag, unit}
-
--- each value is of its type
-abbrev pub Fit : List Ty → List Val → Type 0
-Fit τs [] = Unit {0}
-Fit [] (v ∷ vs) = ⊥
-Fit (τ ∷ τs) (v ∷ vs) = (Holds (hasTy τ v) × WT v) × Fit τs vs
-
--- a slice's machine value is of its type, whatever it points to, where its count fits
-pub slice-fits : {m : ℕ} → m < 2 ^ 64
-    → Holds (hasTy (sliceTy (tyRef erased mut tyUnit)) (sliceVal (0, 0) m)) × WT (sliceVal (0, 0) m)
-slice-fits l = (tt, (tt, (record { fits = l }, tt)))
-
-abbrev tyOf : Local → Ty
-tyOf (local τ h) = τ
 
 -- ---- a function's locals are allocated, its arguments stored and its locals freed, however many there are
 module _ {M : Type 1} {𝓤 : URA M} {H : Heap 𝓤} {A : Atoms 𝓤} {K : Type 0} {W : Given 𝓤 H A} where
@@ -102,32 +88,21 @@ freed 𝓤 H A W Δ E cs z P h =
     via 𝓤 (sep 𝓤 (⋆ 𝓤 H A Δ) R) (⊢++ 𝓤 H A Δ (locals 𝓤 H E cs [])) (via 𝓤 (sep 𝓤 P R) (monoL 𝓤 R h)
     (via 𝓤 (sep 𝓤 (release 𝓤 H E P) (emp 𝓤)) (all-release 𝓤 H A W E cs z P []) (fst∗ 𝓤 (release 𝓤 H E P) (emp 𝓤))))
 
--- ---- by-value parameters
-module _ (n : ℕ) where
-  abbrev pub values : List Plain → List (Param n)
-  values [] = []
-  values (P ∷ Ps) = by-value n P ∷ values Ps
+-- the types of the two locals through which a slice is lent on, before others
+abbrev pub lent-on : RattleType → List Ty → List Ty
+lent-on R τs = tyRef erased mut (pointee (R .written)) ∷ sliceTy (tyRef erased mut (pointee (R .written))) ∷ τs
 
-abbrev mirs : List Plain → List Ty
-mirs [] = []
-mirs (P ∷ Ps) = P .mir ∷ mirs Ps
-
-pub fits : {M : Type 1} (𝓤 : URA M) (H : Heap 𝓤) (A : Atoms 𝓤) → Given 𝓤 H A → (Ps : List Plain)
-    (a : Denots (rows Ps)) → Held Ps a → Fit (mirs Ps) (flat (rows Ps) (valsOf Ps a))
-fits 𝓤 H A W [] a are = tt
-fits 𝓤 H A W (P ∷ Ps) a are = (P .typed 𝓤 H A W (a .0) _ (are .0), fits 𝓤 H A W Ps (a .1) (are .1))
-
--- ---- the law: of a function with the parameters Ps that answers a P, over a core with the parameters Ps′ that answers a Q
-module _ (n : ℕ) (Ps : List (Param n)) (P : Plain) (n′ : ℕ) (Ps′ : List (Param n′)) (Q : Plain) (f : Fn) where
+-- ---- the law: of a function with the parameters Ps that answers a P, over a core with the parameters Ps′ that answers a Q;
+-- ρs are the types of the function's locals after its parameters
+module _ (n : ℕ) (Ps : List (Param n)) (P : Plain) (n′ : ℕ) (Ps′ : List (Param n′)) (Q : Plain) (ρs : List Ty) (f : Fn) where
   abbrev T : Ended
   T = ended n Ps (plain (λ _. P .row))
 
   abbrev T′ : Ended
   T′ = ended n′ Ps′ (plain (λ _. Q .row))
 
-  -- the types of the locals after the result
   abbrev τs : List Ty
-  τs = map tyOf (tl (f .locals))
+  τs = mirs n Ps ++ ρs
 
   abbrev code : Fn
   code = record { lifetimes = n; outlives = []; params = f .params; locals = locs (P .mir ∷ τs) []; body = f .body }
@@ -260,11 +235,11 @@ module _ (n : ℕ) (Ps : List (Param n)) (P : Plain) (n′ : ℕ) (Ps′ : List 
       -- the code, between entry and exit
       pub data Walked : Type 2 where
         walked : (x : RefT PrintPath) (κ : Lft) (q : Share) (κs′ : Lfts n′) (qs′ : Shares n′) (a′ : Args (T′ .signature) κs′)
-            (g′ : c′ κs′ a′ .ghost) → Fit τs vs → Walk x κ q κs′ qs′ a′ g′
+            (g′ : c′ κs′ a′ .ghost) → Walk x κ q κs′ qs′ a′ g′
             → Walked
 
-      entered-at : Walked → FmC 𝓤 H (W .laws) C → Triple 𝓤 (C k) Core → ent 𝓤 (⋆ 𝓤 H A Had) (WpFn 𝓤 H C Λ code vs Due)
-      entered-at (walked x κ q κs′ qs′ a′ g′ fit walk) fm known =
+      entered-at : Fit τs vs → Walked → FmC 𝓤 H (W .laws) C → Triple 𝓤 (C k) Core → ent 𝓤 (⋆ 𝓤 H A Had) (WpFn 𝓤 H C Λ code vs Due)
+      entered-at fit (walked x κ q κs′ qs′ a′ g′ walk) fm known =
           qed W Had ∵ enter ! C Λ code vs Due $ allocates ! (P .mir ∷ τs) (λ bs. params1 ! $
           passes-all ! (‵ (froom (P .mir) (hd 0 bs) 0) ∷ ‵ (fdies (P .mir) (hd 0 bs)) ∷ Had) τs (tl bs) vs fit $
           walk bs (calling x κ q κs′ qs′ a′ g′ bs fm known) (ending x κ q κs′ qs′ a′ g′ bs fm known))
@@ -282,5 +257,5 @@ module _ (n : ℕ) (Ps : List (Param n)) (P : Plain) (n′ : ℕ) (Ps′ : List 
         via 𝓤 (onEntry 𝓤 H A (T .signature) κs qs a (y .0 .4)) (fst∗ 𝓤 _ (c κs a .requires g))
         (said 𝓤 H A (T .signature) κs qs (spelled n κs Ps) (told n κs Ps) a
         (λ us. WpFn 𝓤 H C Λ code (flat (typesAt (slots n Ps) κs) us) (Whole .post ((κs, qs, tt, a, us), g))) (y .0 .4)
-        (λ are. entered-at κs qs a g (walks κs qs a g are) (fmOf 𝓤 H (W .laws) (tablesOf 𝓤 H 𝓜 (tables 𝓤 H 𝓜 𝓡 γ)))
+        (λ are. entered-at κs qs a g (fits n Ps ρs 𝓤 H A W κs a are) (walks κs qs a g are) (fmOf 𝓤 H (W .laws) (tablesOf 𝓤 H 𝓜 (tables 𝓤 H 𝓜 𝓡 γ)))
         (cited 𝓤 H Core 𝓜 𝓡 γ k s is met))))

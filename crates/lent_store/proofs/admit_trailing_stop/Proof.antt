@@ -5,7 +5,7 @@ use Rattle.walks.proofs.WalkSteps.{split, join, fsplit, fsplit3, fjoin, frame, 
 use Rattle.walks.proofs.WalkSteps.{stop, hop, fld, from, load, addr, agg, of-opd, and-then, no-more, assigns, land, whole, sub}
 use Rattle.walks.proofs.WalkSteps.{look-in, u64, named, MutSlice, slice-vals}
 use Rattle.walks.proofs.PathCalls.{meets}
-use Rattle.walks.proofs.PathCalls.{full, reads, asks-with, lent, lent-struct, Plain, flag, values, fits, slice-fits, walked}
+use Rattle.walks.proofs.PathCalls.{full, reads, asks-with, lent, lent-struct, Plain, flag, values, lent-on, slice-fits, walked}
 use Rattle.walks.proofs.Types.{PathOf, LastOf, IdOf, TermsOf, QuantityOf, AdmittedOf, AdmissionOf, admission-parts}
 use Rattle.admission.proofs.admit_trailing_stop as core
 use Rattle.lent_store.proofs.admit_trailing_stop as f
@@ -20,12 +20,11 @@ admit-trailing-stop-spec 𝓤 H 𝓜 𝓖 𝓡 =
     let A = 𝓖 .A in
     let W = givenOf 𝓤 H 𝓜 𝓖 in
     meets 2 (lent 2 0 tt u64 ∷ lent-struct 2 1 tt (PathOf .row) ∷ values 2 Ps) AdmittedOf 1
-    (lent 1 0 tt u64 ∷ values 1 (PathOf ∷ Ps)) AdmissionOf f.Code.function
-    𝓤 H 𝓜 𝓖 𝓡 (f.clauses 𝓤 H A (𝓜 .mem) (𝓡 .run)) (core.clauses 𝓤 H A (𝓜 .mem) (𝓡 .run)) f.Code.env core.Symbol.name
+    (lent 1 0 tt u64 ∷ values 1 (PathOf ∷ Ps)) AdmissionOf (AdmissionOf .mir ∷ lent-on u64 (PathOf .mir ∷ []))
+    f.Code.function 𝓤 H 𝓜 𝓖 𝓡 (f.clauses 𝓤 H A (𝓜 .mem) (𝓡 .run)) (core.clauses 𝓤 H A (𝓜 .mem) (𝓡 .run)) f.Code.env core.Symbol.name
     f.Key.name (f.Code.unfolded 𝓤 H 𝓜 𝓡) core.Symbol.routine f.Code.calls-admission·admit-trailing-stop
     (core.Met.met 𝓤 H 𝓜 𝓖 𝓡) (λ κs qs a g are. let x = a .1 .0 in
-    walked x (κs .1 .0) (qs .1 .0) (κs .0, tt) (qs .0, tt) (a .0, (x .now, a .1 .1)) tt
-    (slice-fits (are .0 .0 .1 .0), ((tt, tt), fits 𝓤 H A W Ps (a .1 .1) (are .1 .1))) (λ bs core end.
+    walked x (κs .1 .0) (qs .1 .0) (κs .0, tt) (qs .0, tt) (a .0, (x .now, a .1 .1)) tt (λ bs core end.
     move ! (24 ∷ 25 ∷ []) $ use1 W (‵ (flft (κs .0) (qs .0)) ⊛ ‵ (flft (κs .1 .0) (qs .1 .0)) ⊛ ‵ ftrue) (id⊢ 𝓤 _) $
     split ! $ move ! (1 ∷ []) $ split ! $ move ! (3 ∷ []) $ fsplit ! $ move ! (1 ∷ []) $ fsplit ! $ fsplit3 ! $ drop ! $
     -- [obs; the borrow; what the values own; what the store owns; the path's token; true; the store's; _11 (7); …]

@@ -4,7 +4,7 @@ use Rattle.walks.proofs.WalkSteps.{refl, [], _∷_, id⊢, ftrue, flft, givenOf
 use Rattle.walks.proofs.WalkSteps.{join, fsplit, fsplit3, fjoin, frame, done, use1, use2, look, look-raw, init, store-raw, stop}
 use Rattle.walks.proofs.WalkSteps.{hop, fld, from, load, addr, agg, of-opd, and-then, no-more, assigns, land, whole, sub, look-in}
 use Rattle.walks.proofs.WalkSteps.{u64, named, MutSlice, slice-vals}
-use Rattle.walks.proofs.PathCalls.{full, reads, asks-with, lent, lent-struct, values, slice-fits, walked, meets}
+use Rattle.walks.proofs.PathCalls.{full, reads, asks-with, lent, lent-struct, values, lent-on, slice-fits, walked, meets}
 use Rattle.walks.proofs.Types.{PathOf, LayoutOf, ClearedOf, cleared-parts}
 use Rattle.store_calls.proofs.clear as core
 use Rattle.lent_store.proofs.clear as f
@@ -15,12 +15,11 @@ clear-spec 𝓤 H 𝓜 𝓖 𝓡 =
     let A = 𝓖 .A in
     let W = givenOf 𝓤 H 𝓜 𝓖 in
     meets 2 (lent 2 0 tt u64 ∷ lent-struct 2 1 tt (PathOf .row) ∷ []) LayoutOf 1 (lent 1 0 tt u64 ∷ values 1 (PathOf ∷ []))
-    ClearedOf f.Code.function 𝓤 H 𝓜 𝓖 𝓡 (f.clauses 𝓤 H A (𝓜 .mem) (𝓡 .run)) (core.clauses 𝓤 H A (𝓜 .mem) (𝓡 .run))
+    ClearedOf (ClearedOf .mir ∷ lent-on u64 (PathOf .mir ∷ [])) f.Code.function 𝓤 H 𝓜 𝓖 𝓡 (f.clauses 𝓤 H A (𝓜 .mem) (𝓡 .run)) (core.clauses 𝓤 H A (𝓜 .mem) (𝓡 .run))
     f.Code.env core.Symbol.name
     f.Key.name (f.Code.unfolded 𝓤 H 𝓜 𝓡) core.Symbol.routine f.Code.calls-store-calls·clear (core.Met.met 𝓤 H 𝓜 𝓖 𝓡)
     (λ κs qs a g are. let x = a .1 .0 in
-    walked x (κs .1 .0) (qs .1 .0) (κs .0, tt) (qs .0, tt) (a .0, (x .now, tt)) tt
-    (slice-fits (are .0 .0 .1 .0), ((tt, tt), tt)) (λ bs core end.
+    walked x (κs .1 .0) (qs .1 .0) (κs .0, tt) (qs .0, tt) (a .0, (x .now, tt)) tt (λ bs core end.
     move ! (14 ∷ 15 ∷ []) $ use1 W (‵ (flft (κs .0) (qs .0)) ⊛ ‵ (flft (κs .1 .0) (qs .1 .0)) ⊛ ‵ ftrue) (id⊢ 𝓤 _) $
     split ! $ move ! (1 ∷ []) $ split ! $ move ! (3 ∷ []) $ fsplit ! $ move ! (1 ∷ []) $ fsplit ! $ fsplit3 ! $ drop ! $
     -- [obs; the borrow; true; what the store owns; the path's token; true; the store's token; _6 (7); …]
