@@ -5,14 +5,14 @@ use mathlib.Core.Path.{_≡_, refl, sym, subst}
 use mathlib.Core.List.{List, [], _∷_, _++_, map}
 use Prim.Native.Nat.{ℕ, suc, _<_, _^_}
 use lib.Dec.{T as Holds}
-use mir.Syntax.{Name, Ty, Local, Fn, Body, Opd, Place, local, erased, mut, tyRef, tyUnit, seq, return, call}
+use mir.Syntax.{Name, Ty, Local, Fn, Body, Opd, Place, place, copy, erased, mut, tyRef, tyUnit, seq, return, call}
 use mir.Val.{hasTy, WT}
 use base.Logic.{sep, comm∗, monoL}
 use base.Stored.{Gv}
 use base.Fml.{Fml, froom, fdies, fres, fauth, fbor, fobor}
 use prog.Model.{Model}
 use prog.Routine.{Env as Routines}
-use prog.Wp.{Env, Closed, release, write}
+use prog.Wp.{Env, Closed, spotOf, release, write}
 use ghost.Atoms.{sem}
 use contract.Lifetimes.{Lfts, Shares, toks}
 use contract.Running.{GhostRules, Running}
@@ -40,8 +40,8 @@ use Rattle.walks.proofs.Plain.{Stands, value as valued, stands, rows, H
 use Rattle.walks.proofs.Types.{PathOf}
 use Rattle.walks.proofs.WalkSteps.{URA, fullShare, Val, SProp, ent, emp, id⊢, via, fst∗, Lft, Share, fat, flft, fobs}
 use Rattle.walks.proofs.WalkSteps.{Routine, Heap, Calls, Loops, WpFn, Atoms, givenOf, tables, tablesOf, Given, ‵, raw}
-use Rattle.walks.proofs.WalkSteps.{_⊛_, ⋆, _$_, _∵_, !, qed, by, move, keep, drop, split, join, frame, done, look, init}
-use Rattle.walks.proofs.WalkSteps.{returns, enter, alloc1, alloc0, params1, pass1, pass0, FmC, owns, RefT, plain}
+use Rattle.walks.proofs.WalkSteps.{_⊛_, ⋆, _$_, _∵_, !, qed, by, move, keep, drop, split, join, frame, done, look, init, stop}
+use Rattle.walks.proofs.WalkSteps.{from, load, and-then, returns, enter, alloc1, alloc0, params1, pass1, pass0, FmC, owns, RefT, plain}
 use Rattle.walks.proofs.WalkSteps.{onEntry, tripleOf, Contract, Triple, calls-at, lasts, entered, cited}
 pub use Rattle.walks.proofs.Frame.{full}
 pub use Rattle.walks.proofs.Lent.{has, reads, asks, asks-with}
@@ -87,6 +87,13 @@ freed 𝓤 H A W Δ E cs z P h =
     let R : SProp 𝓤 = ⋆ 𝓤 H A (locals 𝓤 H E cs []) in
     via 𝓤 (sep 𝓤 (⋆ 𝓤 H A Δ) R) (⊢++ 𝓤 H A Δ (locals 𝓤 H E cs [])) (via 𝓤 (sep 𝓤 P R) (monoL 𝓤 R h)
     (via 𝓤 (sep 𝓤 (release 𝓤 H E P) (emp 𝓤)) (all-release 𝓤 H A W E cs z P []) (fst∗ 𝓤 (release 𝓤 H E P) (emp 𝓤))))
+
+-- an operand that is a local, which is entry m of the context, before others
+pub copied : {M : Type 1} {𝓤 : URA M} {H : Heap 𝓤} {A : Atoms 𝓤} {K : Type 0} {W : Given 𝓤 H A} {Γ : List (Item 𝓤)}
+    {E : Env 𝓤 H} {i : ℕ} {os : List Opd} {vs : List Val} {q : Share} {v : Val}
+    → K → (m : ℕ) → nth 𝓤 H A m Γ ≡ ‵ (fat q (spotOf 𝓤 H E i .0) (spotOf 𝓤 H E i .1) 0 v) → Opds K W Γ E os vs
+    → Opds K W Γ E (copy (place i []) ∷ os) (v ∷ vs)
+copied t m e os = and-then t (load t (from t (stop t)) (look t m e)) os
 
 -- the types of the two locals through which a slice is lent on, before others
 abbrev pub lent-on : RattleType → List Ty → List Ty
