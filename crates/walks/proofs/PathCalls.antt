@@ -1,11 +1,12 @@
--- A call on a lent print path: the path is copied, a core by value is called with the copy and the other parameters, the
--- path that comes back is stored, and the rest is answered. Such a function meets its contract where the core meets its
--- own, whatever the other parameters are, if what the core leaves and says is what the function does.
+-- A call on a lent print path: the path is copied, a core by value is called with the copy and the other parameters,
+-- the path that comes back is stored, and the rest is answered. Such a function meets its contract where the core meets
+-- its own, whatever the other parameters are, if what the core leaves and says is what the function does.
 use mathlib.Core.Path.{_≡_, refl, sym, subst}
 use mathlib.Core.List.{List, [], _∷_, _++_, map}
 use Prim.Native.Nat.{ℕ, suc, _<_, _^_}
 use lib.Dec.{T as Holds}
-use mir.Syntax.{Name, Ty, Local, Fn, Body, Opd, Place, place, copy, erased, mut, tyRef, tyUnit, seq, return, call}
+use mir.Syntax.{Name, Ty, Local, local, Fn, Body, Opd, Place, place, copy, erased, mut, tyRef, tyUnit, seq, return}
+use mir.Syntax.{call}
 use mir.Val.{hasTy, WT}
 use base.Logic.{sep, comm∗, monoL}
 use base.Stored.{Gv}
@@ -16,14 +17,14 @@ use prog.Wp.{Env, Closed, spotOf, release, write}
 use ghost.Atoms.{sem}
 use contract.Lifetimes.{Lfts, Shares, toks}
 use contract.Running.{GhostRules, Running}
-use types.Kit.{Item, Goal, Post, Seq, Step, Sq, Go, step, runs, lands, allocs, passes, prop, atRet, later, some, mean, nth}
-use types.Kit.{push, pop, ⊢++, cut, use1, split3, pick, show, await, updating, now as at-once}
+use types.Kit.{Item, Goal, Post, Seq, Step, Sq, Go, step, runs, lands, allocs, passes, prop, atRet, later, some, mean}
+use types.Kit.{nth, push, pop, ⊢++, cut, use1, split3, pick, show, await, updating, now as at-once}
 use types.Run.{Writes, Opds}
 use types.SemTy.{Body as Within}
 use sound.WpLaws.{fmOf, write-fm}
 use borrow.Table.Row.{hd, tl}
 use borrow.Fn.Frame.{locs, EnvOf}
-use denote.RattleType.{RattleType, Valss, flat}
+use denote.RattleType.{RattleType, Denots, Valss, flat}
 use denote.Laws.{Is, Ises, Are, valss, shows}
 use denote.Memory.{mem, pointee}
 use denote.Slice.{sliceTy, sliceVal}
@@ -35,18 +36,39 @@ use denote.Triple.Clauses.{Ended, Clauses, Lasts, atExit, closing, ensured}
 use Rattle.book.specs.declared.PrintPath.{PrintPath}
 use Rattle.walks.proofs.Frame.{Cell, room, Here, locals, all-release}
 use Rattle.walks.proofs.Lent.{cell, lets-go, shuts}
-use Rattle.walks.proofs.Params.{Fit, Param, slots, spelled, told, mirs, fits, ended}
-use Rattle.walks.proofs.Plain.{Stands, value as valued, stands, rows, Held}
+use Rattle.walks.proofs.Params.{Param, slots, spelled, told, ended}
+use Rattle.walks.proofs.Plain.{rows, valsOf, Held, Stands, value as valued, stands}
 use Rattle.walks.proofs.Types.{PathOf}
-use Rattle.walks.proofs.WalkSteps.{URA, fullShare, Val, SProp, ent, emp, id⊢, via, fst∗, Lft, Share, fat, flft, fobs}
-use Rattle.walks.proofs.WalkSteps.{Routine, Heap, Calls, Loops, WpFn, Atoms, givenOf, tables, tablesOf, Given, ‵, raw}
-use Rattle.walks.proofs.WalkSteps.{_⊛_, ⋆, _$_, _∵_, !, qed, by, move, keep, drop, split, join, frame, done, look, init, stop}
-use Rattle.walks.proofs.WalkSteps.{from, load, and-then, returns, enter, alloc1, alloc0, params1, pass1, pass0, FmC, owns, RefT, plain}
-use Rattle.walks.proofs.WalkSteps.{onEntry, tripleOf, Contract, Triple, calls-at, lasts, entered, cited}
+use Rattle.walks.proofs.WalkSteps.{URA, fullShare, Val, SProp, ent, emp, id⊢, via, fst∗, Lft, Share, fat, flft}
+use Rattle.walks.proofs.WalkSteps.{fobs, Routine, Heap, Calls, Loops, WpFn, Atoms, givenOf, tables, tablesOf}
+use Rattle.walks.proofs.WalkSteps.{Given, ‵, raw, _⊛_, ⋆, _$_, _∵_, !, qed, by, move, keep, drop, split, join}
+use Rattle.walks.proofs.WalkSteps.{frame, done, look, init, stop, from, load, and-then, returns, enter, alloc1}
+use Rattle.walks.proofs.WalkSteps.{alloc0, params1, pass1, pass0, FmC, owns, RefT, plain, onEntry, tripleOf}
+use Rattle.walks.proofs.WalkSteps.{Contract, Triple, calls-at, lasts, entered, cited}
 pub use Rattle.walks.proofs.Frame.{full}
 pub use Rattle.walks.proofs.Lent.{has, reads, asks, asks-with}
-pub use Rattle.walks.proofs.Params.{slice-fits, value, numbers, lent, lent-struct, values}
-pub use Rattle.walks.proofs.Plain.{Plain, valsOf, word, flag, unit}
+pub use Rattle.walks.proofs.Params.{value, numbers, lent, lent-struct}
+pub use Rattle.walks.proofs.Plain.{Plain, word, flag, unit}
+
+abbrev pub values : (n : ℕ) → List Plain → List (Param n)
+values n [] = []
+values n (P ∷ Ps) = value n P ∷ values n Ps
+
+-- ---- each value is of its type; there may be more types
+abbrev Fit : List Ty → List Val → Type 0
+Fit τs [] = Unit {0}
+Fit [] (v ∷ vs) = ⊥
+Fit (τ ∷ τs) (v ∷ vs) = (Holds (hasTy τ v) × WT v) × Fit τs vs
+
+-- a slice's machine value is, whatever it points to, where its count fits
+pub slice-fits : {m : ℕ} → m < 2 ^ 64 → Holds (hasTy (sliceTy (tyRef erased mut tyUnit)) (sliceVal (0, 0) m))
+    × WT (sliceVal (0, 0) m)
+slice-fits l = (tt, (tt, (record { fits = l }, tt)))
+
+pub fits : (Ps : List Plain) {M : Type 1} (𝓤 : URA M) (H : Heap 𝓤) (A : Atoms 𝓤) → Given 𝓤 H A
+    → (a : Denots (rows Ps)) → Held Ps a → Fit (map (λ P. P .mir) Ps) (flat (rows Ps) (valsOf Ps a))
+fits [] 𝓤 H A W a held = tt
+fits (P ∷ Ps) 𝓤 H A W a held = (P .typed 𝓤 H A W (a .0) _ (held .0), fits Ps 𝓤 H A W (a .1) (held .1))
 
 -- ---- a function's locals are allocated, its arguments stored and its locals freed, however many there are
 module _ {M : Type 1} {𝓤 : URA M} {H : Heap 𝓤} {A : Atoms 𝓤} {K : Type 0} {W : Given 𝓤 H A} where
@@ -77,7 +99,8 @@ module _ {M : Type 1} {𝓤 : URA M} {H : Heap 𝓤} {A : Atoms 𝓤} {K : Type 
       (locals 𝓤 H (EnvOf 𝓤 H τs bs) [] Γ) (passes (EnvOf 𝓤 H τs bs) vs g)
   passes-all t Γ τs bs [] fit = pass0 t
   passes-all t Γ [] bs (v ∷ vs) fit = absurd fit
-  passes-all t Γ (τ ∷ τs) bs (v ∷ vs) fit = step (λ s. pass1 t (behind (EnvOf 𝓤 H τs (tl bs)) (init t 0 refl (fit .0))) $
+  passes-all t Γ (τ ∷ τs) bs (v ∷ vs) fit = step (λ s.
+      pass1 t (behind (EnvOf 𝓤 H τs (tl bs)) (init t 0 refl (fit .0))) $
       passes-all t (‵ (fat fullShare τ (hd 0 bs) 0 v) ∷ ‵ (fdies τ (hd 0 bs)) ∷ Γ) τs (tl bs) vs (fit .1) $ s)
 
 freed : {M : Type 1} (𝓤 : URA M) (H : Heap 𝓤) (A : Atoms 𝓤) (W : Given 𝓤 H A) (Δ : List (Item 𝓤)) (E : Env 𝓤 H)
@@ -99,9 +122,16 @@ copied t m e os = and-then t (load t (from t (stop t)) (look t m e)) os
 abbrev pub lent-on : RattleType → List Ty → List Ty
 lent-on R τs = tyRef erased mut (pointee (R .written)) ∷ sliceTy (tyRef erased mut (pointee (R .written))) ∷ τs
 
--- ---- the law: of a function with the parameters Ps that answers a P, over a core with the parameters Ps′ that answers a Q;
--- ρs are the types of the function's locals after its parameters
-module _ (n : ℕ) (Ps : List (Param n)) (P : Plain) (n′ : ℕ) (Ps′ : List (Param n′)) (Q : Plain) (ρs : List Ty) (f : Fn) where
+-- the types of the locals of some parameters
+abbrev tys : {n : ℕ} → List (Param n) → List Local → List Ty
+tys [] ls = []
+tys (P ∷ Ps) [] = []
+tys (P ∷ Ps) (local τ h ∷ ls) = τ ∷ tys Ps ls
+
+-- ---- the law, of a function with the parameters Ps that answers a P, and with locals of the types ρs after them, over
+-- a core with the parameters Ps′ that answers a Q
+module _ (n : ℕ) (Ps : List (Param n)) (P : Plain) (n′ : ℕ) (Ps′ : List (Param n′)) (Q : Plain) (ρs : List Ty)
+    (f : Fn) where
   abbrev T : Ended
   T = ended n Ps (plain (λ _. P .row))
 
@@ -109,7 +139,7 @@ module _ (n : ℕ) (Ps : List (Param n)) (P : Plain) (n′ : ℕ) (Ps′ : List 
   T′ = ended n′ Ps′ (plain (λ _. Q .row))
 
   abbrev τs : List Ty
-  τs = mirs n Ps ++ ρs
+  τs = tys Ps (tl (f .locals)) ++ ρs
 
   abbrev code : Fn
   code = record { lifetimes = n; outlives = []; params = f .params; locals = locs (P .mir ∷ τs) []; body = f .body }
@@ -135,22 +165,25 @@ module _ (n : ℕ) (Ps : List (Param n)) (P : Plain) (n′ : ℕ) (Ps′ : List 
     Core = tripleOf 𝓤 H A (T′ .signature) (closing 𝓤 H A T′ c′)
 
     module _ (κs : Lfts n) (qs : Shares n) (a : Args (T .signature) κs) (g : c κs a .ghost) where
-      abbrev at : Valss (typesAt (slots n Ps) κs)
-      at = valss (typesAt (slots n Ps) κs) (spelled n κs Ps) a
+      abbrev Rs : List RattleType
+      Rs = typesAt (slots n Ps) κs
+
+      abbrev at : Valss Rs
+      at = valss Rs (spelled n κs Ps) a
 
       abbrev vs : List Val
-      vs = flat (typesAt (slots n Ps) κs) at
+      vs = flat Rs at
 
       -- what is had at entry, and what is to be had of the value returned
       abbrev Had : List (Item 𝓤)
-      Had = raw (toks 𝓤 A n κs qs) ∷ ‵ (owns (typesAt (slots n Ps) κs) a at) ∷ []
+      Had = raw (toks 𝓤 A n κs qs) ∷ ‵ (owns Rs a at) ∷ []
 
       abbrev Due : Val → SProp 𝓤
       Due = Whole .post ((κs, qs, tt, a, at), g)
 
       -- at the path's reference, and at what the core is called with
-      module _ (x : RefT PrintPath) (κ : Lft) (q : Share) (κs′ : Lfts n′) (qs′ : Shares n′) (a′ : Args (T′ .signature) κs′)
-          (g′ : c′ κs′ a′ .ghost) where
+      module _ (x : RefT PrintPath) (κ : Lft) (q : Share) (κs′ : Lfts n′) (qs′ : Shares n′)
+          (a′ : Args (T′ .signature) κs′) (g′ : c′ κs′ a′ .ghost) where
         abbrev to : Core .Ghost
         to = ((κs′, qs′, tt, a′, valss (typesAt (slots n′ Ps′) κs′) (spelled n′ κs′ Ps′) a′), g′)
 
@@ -191,8 +224,8 @@ module _ (n : ℕ) (Ps : List (Param n)) (P : Plain) (n′ : ℕ) (Ps′ : List 
                 → Sq W (Rest d zs ∷ Γ) (lands C Λ E y (Q .val d) rest at-return))
                 → Sq W (raw (Core .pre to) ∷ Γ) (runs C Λ E (seq (call k os y) rest) at-return)
 
-          -- the function returns r, where the path has become h: the borrow is closed, the locals are freed, and what the
-          -- core leaves and says is what the function leaves and says
+          -- the function returns r, where the path has become h: the borrow is closed, the locals are freed, and what
+          -- the core leaves and says is what the function leaves and says
           abbrev Ending : Type 2
           Ending = (d : Q .row .Denot) (zs : Left) (r : P .row .Denot) → Stands P r → (h : PrintPath) → Stands PathOf h
               → (ws : Lasts T κs a)
@@ -200,11 +233,11 @@ module _ (n : ℕ) (Ps : List (Param n)) (P : Plain) (n′ : ℕ) (Ps′ : List 
               (prop (sep 𝓤 (toks 𝓤 A n κs qs) (sem 𝓤 H A (lasts T κs a ws))))
               → ent 𝓤 (Said d zs) (c κs a .ensures g r (atExit T κs a ws))
               → (cs : List Cell) → Here cs → (m : ℕ)
-              → nth 𝓤 H A m (locals 𝓤 H E (full (P .val r) ∷ cs) []) ≡ ‵ (fat fullShare (P .mir) (hd 0 bs) 0 (P .val r))
+              → nth 𝓤 H A m (locals 𝓤 H E (full (P .val r) ∷ cs) [])
+              ≡ ‵ (fat fullShare (P .mir) (hd 0 bs) 0 (P .val r))
               → Sq W (‵ (cell PathOf h (x .ptr .0) (x .ptr .1)) ∷ ‵ (fobor κ q borrowed)
-              ∷ ‵ (fobs (x .name) (coded (x .now)))
-              ∷ ‵ (fauth (x .name) (coded (x .now))) ∷ Rest d zs ∷ locals 𝓤 H E (full (P .val r) ∷ cs) [])
-              (runs C Λ E return at-return)
+              ∷ ‵ (fobs (x .name) (coded (x .now))) ∷ ‵ (fauth (x .name) (coded (x .now))) ∷ Rest d zs
+              ∷ locals 𝓤 H E (full (P .val r) ∷ cs) []) (runs C Λ E return at-return)
 
           module _ (fm : FmC 𝓤 H (W .laws) C) (known : Triple 𝓤 (C k) Core) where
             calling : Calling
@@ -232,8 +265,8 @@ module _ (n : ℕ) (Ps : List (Param n)) (P : Plain) (n′ : ℕ) (Ps′ : List 
                 updating ! $ at-once ! $
                 show ! (λ (z : P .row .Denot). sep 𝓤 (Back 𝓤 H A (T .signature) (κs, qs, tt, a, at) (P .val r) z)
                 (ensured 𝓤 H A T c κs a g z)) r $ move ! (2 ∷ 0 ∷ []) $ join ! $ frame ! $
-                show ! (λ (z : Lasts T κs a). sep 𝓤 (sem 𝓤 H A (lasts T κs a z)) (c κs a .ensures g r (atExit T κs a z)))
-                ws $ keep ! (1 ∷ 0 ∷ []) $ done !))
+                show ! (λ (z : Lasts T κs a). sep 𝓤 (sem 𝓤 H A (lasts T κs a z))
+                (c κs a .ensures g r (atExit T κs a z))) ws $ keep ! (1 ∷ 0 ∷ []) $ done !))
 
         abbrev Walk : Type 2
         Walk = (bs : List ℕ) → Calling bs → Ending bs
@@ -241,19 +274,19 @@ module _ (n : ℕ) (Ps : List (Param n)) (P : Plain) (n′ : ℕ) (Ps′ : List 
 
       -- the code, between entry and exit
       pub data Walked : Type 2 where
-        walked : (x : RefT PrintPath) (κ : Lft) (q : Share) (κs′ : Lfts n′) (qs′ : Shares n′) (a′ : Args (T′ .signature) κs′)
-            (g′ : c′ κs′ a′ .ghost) → Walk x κ q κs′ qs′ a′ g′
-            → Walked
+        walked : (x : RefT PrintPath) (κ : Lft) (q : Share) (κs′ : Lfts n′) (qs′ : Shares n′)
+            (a′ : Args (T′ .signature) κs′) (g′ : c′ κs′ a′ .ghost) → Fit τs vs → Walk x κ q κs′ qs′ a′ g′ → Walked
 
-      entered-at : Fit τs vs → Walked → FmC 𝓤 H (W .laws) C → Triple 𝓤 (C k) Core → ent 𝓤 (⋆ 𝓤 H A Had) (WpFn 𝓤 H C Λ code vs Due)
-      entered-at fit (walked x κ q κs′ qs′ a′ g′ walk) fm known =
+      through : Walked → FmC 𝓤 H (W .laws) C → Triple 𝓤 (C k) Core
+          → ent 𝓤 (⋆ 𝓤 H A Had) (WpFn 𝓤 H C Λ code vs Due)
+      through (walked x κ q κs′ qs′ a′ g′ fit walk) fm known =
           qed W Had ∵ enter ! C Λ code vs Due $ allocates ! (P .mir ∷ τs) (λ bs. params1 ! $
           passes-all ! (‵ (froom (P .mir) (hd 0 bs) 0) ∷ ‵ (fdies (P .mir) (hd 0 bs)) ∷ Had) τs (tl bs) vs fit $
           walk bs (calling x κ q κs′ qs′ a′ g′ bs fm known) (ending x κ q κs′ qs′ a′ g′ bs fm known))
 
     pub meets : (j : Name) → Closed 𝓤 H C Λ j code → (s : Routine) → γ k ≡ s → Triple 𝓤 (𝓡 .run s) Core
         → ((κs : Lfts n) (qs : Shares n) (a : Args (T .signature) κs) (g : c κs a .ghost)
-        → Are (typesAt (slots n Ps) κs) (Ises (typesAt (slots n Ps) κs)) a (at κs qs a g) → Walked κs qs a g)
+        → Are (Rs κs qs a g) (Ises (Rs κs qs a g)) a (at κs qs a g) → Walked κs qs a g)
         → Triple 𝓤 (C j) Whole
     unfolding tablesOf
     meets j unfolded s is met walks = entered 𝓤 H Whole C Λ j code unfolded (λ y.
@@ -263,6 +296,6 @@ module _ (n : ℕ) (Ps : List (Param n)) (P : Plain) (n′ : ℕ) (Ps′ : List 
         let g = y .1 in
         via 𝓤 (onEntry 𝓤 H A (T .signature) κs qs a (y .0 .4)) (fst∗ 𝓤 _ (c κs a .requires g))
         (said 𝓤 H A (T .signature) κs qs (spelled n κs Ps) (told n κs Ps) a
-        (λ us. WpFn 𝓤 H C Λ code (flat (typesAt (slots n Ps) κs) us) (Whole .post ((κs, qs, tt, a, us), g))) (y .0 .4)
-        (λ are. entered-at κs qs a g (fits n Ps ρs 𝓤 H A W κs a are) (walks κs qs a g are) (fmOf 𝓤 H (W .laws) (tablesOf 𝓤 H 𝓜 (tables 𝓤 H 𝓜 𝓡 γ)))
-        (cited 𝓤 H Core 𝓜 𝓡 γ k s is met))))
+        (λ us. WpFn 𝓤 H C Λ code (flat (Rs κs qs a g) us) (Whole .post ((κs, qs, tt, a, us), g))) (y .0 .4)
+        (λ are. through κs qs a g (walks κs qs a g are)
+        (fmOf 𝓤 H (W .laws) (tablesOf 𝓤 H 𝓜 (tables 𝓤 H 𝓜 𝓡 γ))) (cited 𝓤 H Core 𝓜 𝓡 γ k s is met))))
