@@ -27,15 +27,6 @@ struct Start {
     trade: LastPrice,
 }
 
-fn start_of(path: PrintPath, trade: LastPrice) -> Start
-    ensures { λ r. ⌜ (r .path ≡ path) × (r .trade ≡ trade) ⌝ }
-{
-    Start {
-        path: path,
-        trade: trade,
-    }
-}
-
 // The answer of a run with the path after it, and how many entries it put on its list.
 struct ListedRun {
     run: StopRun,
@@ -105,7 +96,11 @@ pub fn run_stop_triggers(
     ensures { λ _. ⌜ now (elected .exit)
         ≡ written (runCall settings (now (script .entry)) trade (now (s .entry)) (length (now (elected .entry))) (now (path .entry)) .elected) (now (elected .entry)) ⌝ }
 {
-    let run = run_listed(s, settings, script, start_of(*path, trade), elected);
+    let start = Start {
+        path: *path,
+        trade: trade,
+    };
+    let run = run_listed(s, settings, script, start, elected);
     *path = run.path;
     run.answer
 }

@@ -9,6 +9,7 @@ pub mod Lent
 pub mod Lets
 pub mod Locals
 pub mod Params
+pub mod PathCalls
 pub mod ThinStores
 pub mod Plain
 pub mod Types
