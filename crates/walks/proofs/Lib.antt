@@ -1,10 +1,12 @@
 pub mod Again
 pub mod Buffers
+pub mod Cells
 pub mod Claims
 pub mod Constants
 pub mod ListCalls
 pub mod FillLoop
 pub mod Frame
+pub mod Lending
 pub mod Lent
 pub mod Lets
 pub mod Locals
@@ -13,4 +15,5 @@ pub mod ThinStores
 pub mod Plain
 pub mod Types
 pub mod WalkSteps
+pub mod WordCalls
 pub mod Written
