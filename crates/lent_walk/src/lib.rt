@@ -1,8 +1,7 @@
-// A walk over a lent list of records: what it elects is written as words into a local array, and from there into the
-// list.
+// A walk over a lent list of records: what it elects is written as words into a local array, as far as the list has
+// room, and from there into the list.
 use book::ELECTED_WORDS;
 use book::Elected;
-use book::ElectedWords;
 use book::EvaluationAnswer;
 use book::LastPrice;
 use book::MOST_RECORDS;
@@ -10,14 +9,11 @@ use book::Settings;
 use lent_lists::fill_elected;
 use word_rooms::elected_count;
 use word_rooms::least;
-ghost use Prim.Native.Nat.{_≤_};
 ghost use mathlib.Core.List.{map};
 ghost use mathlib.Core.Path.{_≡_};
-ghost use lib.ListN.{length, take as firsts};
+ghost use lib.ListN.{length};
 ghost use Rattle.book.specs.Answers.{toldCounts};
 ghost use Rattle.book.specs.Calls.{written, walkCall};
-ghost use Rattle.book.specs.Sizes.{mostRecords};
-ghost use Rattle.entry_records.specs.Records.{electedOf};
 ghost use Rattle.pricelevel.specs.Price.{toPrice};
 
 // A walk: a point at each price in turn. The elected are written from the start of the list; later entries stay.

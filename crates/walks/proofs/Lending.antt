@@ -27,10 +27,11 @@ use denote.Slice.{sliceTy, sliceVal}
 use denote.Signature.{Slot, plain, typesAt}
 use denote.Triple.Spec.{tripleOf}
 use denote.Triple.End.{Kepts}
-use denote.Triple.Statement.{Contract, Triple}
+use denote.Triple.Statement.{Triple}
 use denote.Triple.Call.{calls-at}
 use denote.Triple.Clauses.{Ended, closing, lasts}
 use Rattle.walks.proofs.Frame.{room, full}
+use Rattle.walks.proofs.Known.{Promise}
 use Rattle.walks.proofs.Lent.{answers, asks}
 use Rattle.walks.proofs.Plain.{Plain, Stands, Held, rows, valsOf, value, stands}
 use Rattle.walks.proofs.Cells.{Typed, cell, cellAt, held, reads, sets}
@@ -100,8 +101,8 @@ module _ (ss : List (Slot 0)) (ks : Kepts ss) (P : Plain) (φ : Denots (typesAt 
   }
 
   -- it answers an r with φ
-  abbrev pub Computes : {M : Type 1} (𝓤 : URA M) (H : Heap 𝓤) (A : Atoms 𝓤) → Contract 𝓤
-  Computes 𝓤 H A = tripleOf 𝓤 H A (computing .signature) (closing 𝓤 H A computing (λ κs args. record {
+  abbrev pub Computes : Promise
+  Computes M 𝓤 H A = tripleOf 𝓤 H A (computing .signature) (closing 𝓤 H A computing (λ κs args. record {
     ghost = Unit {0};
     requires = λ _. emp 𝓤;
     ensures = λ _ r end. fact 𝓤 (φ args r);
@@ -110,15 +111,15 @@ module _ (ss : List (Slot 0)) (ks : Kepts ss) (P : Plain) (φ : Denots (typesAt 
   -- it is called, with the values a of the plain types Ps
   pub computes : {M : Type 1} {𝓤 : URA M} {H : Heap 𝓤} {A : Atoms 𝓤} {K : Type 0} {W : Given 𝓤 H A} {Γ : List (Item 𝓤)}
       {C : Calls 𝓤 H} {Λ : Loops 𝓤 H} {E : Env 𝓤 H} {q : Post 𝓤 H} {f : Name} {xs : List Operand} {d : Place} {rest : Body} → K
-      → FmC 𝓤 H (W .laws) C → Triple 𝓤 (C f) (Computes 𝓤 H A)
+      → FmC 𝓤 H (W .laws) C → Triple 𝓤 (C f) (Computes _ 𝓤 H A)
       → (a : Denots (typesAt ss tt)) (vs : Valss (typesAt ss tt)) (Ps : List Plain) (b : Denots (rows Ps)) → Held Ps b
       → owns (rows Ps) b (valsOf Ps b) ≡ owns (typesAt ss tt) a vs
-      → Opds K W (raw (Computes 𝓤 H A .pre ((tt, tt, tt, a, vs), tt)) ∷ Γ) E xs (flat (typesAt ss tt) vs)
+      → Opds K W (raw (Computes _ 𝓤 H A .pre ((tt, tt, tt, a, vs), tt)) ∷ Γ) E xs (flat (typesAt ss tt) vs)
       → ((r : P .row .Denot) → Stands P r → φ a r → Seq K W Γ (lands C Λ E d (P .val r) rest q))
       → Seq K W Γ (runs C Λ E (seq (call f xs d) rest) q)
   computes {𝓤 = 𝓤} {H} {A} {W = W} t fm known a vs Ps b are same opds go =
-      use0 W (raw (Computes 𝓤 H A .pre ((tt, tt, tt, a, vs), tt)))
+      use0 W (raw (Computes _ 𝓤 H A .pre ((tt, tt, tt, a, vs), tt)))
       (subst (λ (F : Fml). ent 𝓤 (emp 𝓤) (sep 𝓤 (sep 𝓤 (emp 𝓤) (sem 𝓤 H A F)) (emp 𝓤))) same (asks 𝓤 H A W Ps b are)) $
-      calls-at t fm (Computes 𝓤 H A) known ((tt, tt, tt, a, vs), tt) opds (λ w.
+      calls-at t fm (Computes _ 𝓤 H A) known ((tt, tt, tt, a, vs), tt) opds (λ w.
       answers P t tt (‵ ftrue) (lasts computing tt a) (λ r _. φ a r ∷ []) w (id⊢ 𝓤 _) (λ r zs is e. drop t $ drop t $
       lands-as P t r w is $ go r (stands P r w is) e))

@@ -6,6 +6,7 @@ pub mod Constants
 pub mod ListCalls
 pub mod FillLoop
 pub mod Frame
+pub mod Known
 pub mod Lending
 pub mod Lent
 pub mod Lets

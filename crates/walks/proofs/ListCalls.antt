@@ -14,8 +14,11 @@ use mir.Syntax.{Name, Fn, Body, named, w64, tyInt, tyArray, place, field, copy, 
 use mir.Val.{Val, vint, vptr}
 use base.Logic.{SProp, ent, via, id⊢, fst∗, emp}
 use base.Fml.{Lft, Share, GName, Fml, ftrue, froom, flft}
-use prog.Wp.{Heap, Env, Calls, Loops, WpFn, Tables}
+use prog.Model.{Model}
+use prog.Routine.{Env as RoutineEnv}
+use prog.Wp.{Heap, Env, Calls, Loops, WpFn, Closed, Tables}
 use ghost.Atoms.{Atoms}
+use contract.Running.{GhostRules, Running, givenOf, tables, tablesOf}
 use types.Kit.{Given, Item, Sq, runs, atRet, ‵, raw, _⊛_, ⋆, _$_, _∵_, !, qed, by, move, keep, drop, use1, use2, split, join, fsplit, fjoin}
 use types.Kit.{suffices, frame, done}
 use types.Run.{and-then, no-more, assigns, land, from, stop, fld, load, of-opd, lit}
@@ -30,8 +33,9 @@ use denote.Exit.{yes, Seen, see}
 use denote.Signature.{plain}
 use denote.Steps.{nothing}
 use denote.Triple.Entry.{onEntry}
-use denote.Triple.Spec.{Meets}
-use denote.Triple.Statement.{Contract, Triple}
+use denote.Triple.Spec.{Meets, tripleOf}
+use denote.Triple.Table.{entered}
+use denote.Triple.Statement.{Triple}
 use denote.Triple.Clauses.{Ended, Clauses, closing}
 use denote.Triple.Walked.{walkOf, ends-at}
 use Rattle.book.specs.Calls.{written}
@@ -42,6 +46,7 @@ use Rattle.walks.proofs.Cells.{Blocks, envOf, cells, held, reads, sets,
 use Rattle.walks.proofs.Claims.{All, claims, claimed, the-first, others-and}
 use Rattle.walks.proofs.FillLoop.{Fills}
 use Rattle.walks.proofs.Frame.{Cell, room as empty, full, away}
+use Rattle.walks.proofs.Known.{Promise, Known, knows}
 use Rattle.walks.proofs.Lending.{Computes, computes, relends, points}
 use Rattle.walks.proofs.Lent.{has}
 use Rattle.walks.proofs.Locals.{to-row, row-room}
@@ -54,6 +59,13 @@ use Rattle.walks.proofs.WordCalls.{evaluates-to, locals, block, Outcome
 use Rattle.walks.proofs.WordCalls.{Owned, Gone, evaluates}
 use Rattle.walks.proofs.Written.{written-back}
 
+-- ---- the callees beside the evaluation: the least of two numbers, and how many entries an answer counts
+abbrev pub Least : Promise
+Least = Computes (plain (λ κs. usize) ∷ plain (λ κs. usize) ∷ []) (yes, (yes, tt)) word (λ a r. r ≡ min (a .0) (a .1 .0))
+
+abbrev pub Counts : (P : Plain) → (P .row .Denot → ℕ) → Promise
+Counts P count = Computes (plain (λ κs. P .row) ∷ []) (yes, tt) word (λ a r. r ≡ count (a .0))
+
 module _ (L : Listing) (P : Plain) {T : Type 0} (told : P .row .Denot → T) (count : T → ℕ) (sh : Shape)
     (outcome : Outcomes L P told sh) where
   abbrev R : Plain
@@ -61,14 +73,6 @@ module _ (L : Listing) (P : Plain) {T : Type 0} (told : P .row .Denot → T) (co
 
   abbrev m : ℕ
   m = L .most .most
-
-  -- ---- the callees beside the evaluation: the least of two numbers, and how many entries an answer counts
-  abbrev pub Least : {M : Type 1} (𝓤 : URA M) (H : Heap 𝓤) (A : Atoms 𝓤) → Contract 𝓤
-  Least = Computes (plain (λ κs. usize) ∷ plain (λ κs. usize) ∷ []) (yes, (yes, tt)) word
-      (λ a r. r ≡ min (a .0) (a .1 .0))
-
-  abbrev pub Counts : {M : Type 1} (𝓤 : URA M) (H : Heap 𝓤) (A : Atoms 𝓤) → Contract 𝓤
-  Counts = Computes (plain (λ κs. P .row) ∷ []) (yes, tt) word (λ a r. r ≡ count (told (a .0)))
 
   -- ---- the function
   abbrev Ps : List (Param 3)
@@ -213,8 +217,8 @@ module _ (L : Listing) (P : Plain) {T : Type 0} (told : P .row .Denot → T) (co
 
     -- ---- the walk
     module _ (C : Calls 𝓤 H) (Λ : Loops 𝓤 H) (fm : FmC 𝓤 H (W .laws) C) (least callee counter filler : Name)
-        (known₀ : Triple 𝓤 (C least) (Least 𝓤 H A)) (known₁ : Triple 𝓤 (C callee) (Evaluates L P told 𝓤 H A sh outcome))
-        (known₂ : Triple 𝓤 (C counter) (Counts 𝓤 H A)) (known₃ : Triple 𝓤 (C filler) (Fills R (L .wide) (L .of) 𝓤 H A))
+        (known₀ : Triple 𝓤 (C least) (Least _ 𝓤 H A)) (known₁ : Triple 𝓤 (C callee) (Evaluates L P told sh outcome _ 𝓤 H A))
+        (known₂ : Triple 𝓤 (C counter) (Counts P (λ r. count (told r)) _ 𝓤 H A)) (known₃ : Triple 𝓤 (C filler) (Fills R (L .wide) (L .of) _ 𝓤 H A))
         (fits₁ : Room u64 (length (xs .now))) (fits₃ : Room (R .row) n) where
       module _ (bs : Blocks (locals L P sh)) where
         abbrev En : Env 𝓤 H
@@ -235,7 +239,7 @@ module _ (L : Listing) (P : Plain) {T : Type 0} (told : P .row .Denot → T) (co
               ∷ full (fourth sh .val κ₂ y) ∷ full s₃ ∷ d ∷ full (vint w64 j) ∷ full (P .val (s .answer)) ∷ full (zeros (L .wide))
               ∷ full (vint w64 i) ∷ full u₁ ∷ full u₂ ∷ full u₃ ∷ full u₄ ∷ full u₅ ∷ full u₆ ∷ cs
 
-          abbrev to-fill : ℕ → ℕ → GName → Fills R (L .wide) (L .of) 𝓤 H A .Ghost
+          abbrev to-fill : ℕ → ℕ → GName → Fills R (L .wide) (L .of) _ 𝓤 H A .Ghost
           to-fill i ν δ = (
             (
               (κ₃, (ν ∷ [], tt)),
@@ -262,7 +266,7 @@ module _ (L : Listing) (P : Plain) {T : Type 0} (told : P .row .Denot → T) (co
               fills (R .row) (L .wide) m (L .of) xe l words i ! (
                 omega (arith, few j room-is s i counted),
                 rw (all-long j room-is s) (omega (arith, few j room-is s i counted)),
-              ) i-is (all-long j room-is s) (L .fits) fm (Fills R (L .wide) (L .of) 𝓤 H A) known₃ (to-fill i) (λ ν δ. id⊢ 𝓤 _)
+              ) i-is (all-long j room-is s) (L .fits) fm (Fills R (L .wide) (L .of) _ 𝓤 H A) known₃ (to-fill i) (λ ν δ. id⊢ 𝓤 _)
               (λ ν δ w. id⊢ 𝓤 _) (λ ν δ. and-then ! (reads ! 26 refl)
               (and-then ! (reads ! 28 refl) (and-then ! (reads ! 17 refl) (no-more !))))
               (λ w w-typed ms long h.
@@ -321,18 +325,32 @@ module _ (L : Listing) (P : Plain) {T : Type 0} (told : P .row .Denot → T) (co
             ),
           ) (λ bs. begins bs x-is y-is)
 
-  module _ {M : Type 1} (𝓤 : URA M) (H : Heap 𝓤) (A : Atoms 𝓤) (W : Given 𝓤 H A) (least callee counter filler : Name)
-      (lists : (κ : Lft) (settings : Settings) (x : third sh .row κ .Denot) (y : fourth sh .row κ .Denot) (w : List ℕ)
-      → Lists L count (outcome κ settings x y w)) where
-    pub meets : (𝓣 : Tables 𝓤 H) → Triple 𝓤 (𝓣 .C least) (Least 𝓤 H A)
-        → Triple 𝓤 (𝓣 .C callee) (Evaluates L P told 𝓤 H A sh outcome)
-        → Triple 𝓤 (𝓣 .C counter) (Counts 𝓤 H A) → Triple 𝓤 (𝓣 .C filler) (Fills R (L .wide) (L .of) 𝓤 H A)
-        → Meets 𝓤 H A (signed .signature) (WpFn 𝓤 H (𝓣 .C) (𝓣 .Λ) (code least callee counter filler))
-        (closing 𝓤 H A signed (clauses 𝓤))
-    meets 𝓣 known₀ known₁ known₂ known₃ =
-        params.meets 3 Ps (plain (λ κs. P .row)) 𝓤 H A W (clauses 𝓤) (code least callee counter filler) 𝓣
-        (λ κs qs bounds a g are. walk 𝓤 H A W (κs .0) (κs .1 .0) (κs .1 .1 .0) (qs .0) (qs .1 .0) (qs .1 .1 .0) (a .0)
-        (a .1 .0) (a .1 .1 .0) (a .1 .1 .1 .0) (a .1 .1 .1 .1 .0) (are .1 .0)
-        (lists (κs .1 .0) (a .1 .0) (a .1 .1 .0) (a .1 .1 .1 .0) (a .0 .now)) (𝓣 .C) (𝓣 .Λ) (fmOf 𝓤 H (W .laws) 𝓣) least
-        callee counter filler known₀ known₁ known₂ known₃ (are .0 .0 .1) (are .1 .1 .1 .1 .0 .0 .1) (are .1 .1 .0)
-        (are .1 .1 .1 .0))
+  -- ---- such a function is proved, with its callees as they are known
+  module _ (lists : (κ : Lft) (settings : Settings) (x : third sh .row κ .Denot) (y : fourth sh .row κ .Denot) (w : List ℕ)
+      → Lists L count (outcome κ settings x y w)) (least : Known Least) (callee : Known (Evaluates L P told sh outcome))
+      (counter : Known (Counts P (λ r. count (told r)))) (filler : Known (Fills R (L .wide) (L .of))) where
+    abbrev whole : Fn
+    whole = code (least .name) (callee .name) (counter .name) (filler .name)
+
+    pub proved : {M : Type 1} (𝓤 : URA M) (H : Heap 𝓤) (𝓜 : Model 𝓤 H) (𝓖 : GhostRules 𝓤 H) (𝓡 : Running 𝓤 H 𝓜)
+        (γ : RoutineEnv) (name : Name)
+        → Closed 𝓤 H (tables 𝓤 H 𝓜 𝓡 γ .C) (tables 𝓤 H 𝓜 𝓡 γ .Λ) name whole
+        → γ (least .name) ≡ least .routine → γ (callee .name) ≡ callee .routine → γ (counter .name) ≡ counter .routine
+        → γ (filler .name) ≡ filler .routine
+        → Meets 𝓤 H (𝓖 .A) (signed .signature) (𝓡 .run (γ name)) (closing 𝓤 H (𝓖 .A) signed (clauses 𝓤))
+    unfolding tablesOf
+    proved 𝓤 H 𝓜 𝓖 𝓡 γ name closed e₀ e₁ e₂ e₃ =
+        let A : Atoms 𝓤 = 𝓖 .A in
+        let W : Given 𝓤 H A = givenOf 𝓤 H 𝓜 𝓖 in
+        let 𝓣 : Tables 𝓤 H = tablesOf 𝓤 H 𝓜 (tables 𝓤 H 𝓜 𝓡 γ) in
+        entered 𝓤 H (tripleOf 𝓤 H A (signed .signature) (closing 𝓤 H A signed (clauses 𝓤))) (tables 𝓤 H 𝓜 𝓡 γ .C)
+        (tables 𝓤 H 𝓜 𝓡 γ .Λ) name whole closed
+        (params.meets 3 Ps (plain (λ κs. P .row)) 𝓤 H A W (clauses 𝓤) whole 𝓣 (λ κs qs bounds a g are.
+        walk 𝓤 H A W (κs .0) (κs .1 .0) (κs .1 .1 .0) (qs .0) (qs .1 .0) (qs .1 .1 .0) (a .0) (a .1 .0) (a .1 .1 .0)
+        (a .1 .1 .1 .0) (a .1 .1 .1 .1 .0) (are .1 .0)
+        (lists (κs .1 .0) (a .1 .0) (a .1 .1 .0) (a .1 .1 .1 .0) (a .0 .now)) (𝓣 .C) (𝓣 .Λ) (fmOf 𝓤 H (W .laws) 𝓣)
+        (least .name) (callee .name) (counter .name) (filler .name) (knows 𝓤 H 𝓜 𝓖 𝓡 γ Least least e₀)
+        (knows 𝓤 H 𝓜 𝓖 𝓡 γ (Evaluates L P told sh outcome) callee e₁)
+        (knows 𝓤 H 𝓜 𝓖 𝓡 γ (Counts P (λ r. count (told r))) counter e₂)
+        (knows 𝓤 H 𝓜 𝓖 𝓡 γ (Fills R (L .wide) (L .of)) filler e₃) (are .0 .0 .1) (are .1 .1 .1 .1 .0 .0 .1)
+        (are .1 .1 .0) (are .1 .1 .1 .0)))

@@ -29,7 +29,7 @@ use denote.Exit.{yes, Seen, Last, left, see}
 use denote.Signature.{Slot, plain, mutSliceOf}
 use denote.Steps.{nothing}
 use denote.Triple.Spec.{tripleOf}
-use denote.Triple.Statement.{Contract, Triple}
+use denote.Triple.Statement.{Triple}
 use denote.Triple.Call.{calls-at}
 use denote.Triple.Clauses.{Ended, Clauses, closing, lasts}
 use Rattle.book.specs.Calls.{written}
@@ -39,6 +39,7 @@ use Rattle.walks.proofs.Cells.{Typed, Blocks, envOf, cells, reads, sets
 use Rattle.walks.proofs.Claims.{All, claims}
 use Rattle.walks.proofs.Constants.{Most}
 use Rattle.walks.proofs.Frame.{Cell, room as empty, full, away}
+use Rattle.walks.proofs.Known.{Promise}
 use Rattle.walks.proofs.Lending.{relends, points, lands-as}
 use Rattle.walks.proofs.Lent.{has, answers}
 use Rattle.walks.proofs.Plain.{Plain, Stands, stands}
@@ -290,8 +291,8 @@ module _ (L : Listing) (P : Plain) {T : Type 0} (told : P .row .Denot → T) whe
         r (e .0 .now) (e .1 .1 .1 .1 .0) (e .1 .1 .1 .0 .now));
   }
 
-  abbrev pub Evaluates : {M : Type 1} (𝓤 : URA M) (H : Heap 𝓤) (A : Atoms 𝓤) (sh : Shape) → Outcomes sh → Contract 𝓤
-  Evaluates 𝓤 H A sh outcome =
+  abbrev pub Evaluates : (sh : Shape) → Outcomes sh → Promise
+  Evaluates sh outcome M 𝓤 H A =
       tripleOf 𝓤 H A (calling sh .signature) (closing 𝓤 H A (calling sh) (called 𝓤 sh outcome))
 
   -- ---- the call, which is lent the first j entries of an array of zeros
@@ -323,7 +324,7 @@ module _ (L : Listing) (P : Plain) {T : Type 0} (told : P .row .Denot → T) whe
 
     -- its arguments, at a lifetime ν of the words
     abbrev with : (sh : Shape) (outcome : Outcomes sh) (x : third sh .row κ₂ .Denot) (y : fourth sh .row κ₂ .Denot)
-        → ℕ → ℕ → GName → Evaluates 𝓤 H A sh outcome .Ghost
+        → ℕ → ℕ → GName → Evaluates sh outcome _ 𝓤 H A .Ghost
     with (single t X) outcome x y l ν δ = (
       (
         (κ₁, (κ₂, (ν ∷ [], tt))),
@@ -360,10 +361,10 @@ module _ (L : Listing) (P : Plain) {T : Type 0} (told : P .row .Denot → T) whe
     module _ (C : Calls 𝓤 H) (Λ : Loops 𝓤 H) (fm : FmC 𝓤 H (W .laws) C) (callee : Name) (b : Body) (q : Post 𝓤 H) where
       is-called : (sh : Shape) (outcome : Outcomes sh) (x : third sh .row κ₂ .Denot) (y : fourth sh .row κ₂ .Denot) (l : ℕ)
           (E : Env 𝓤 H) (ops : List Operand) (d : Place) (Γ : List (Item 𝓤))
-          → Triple 𝓤 (C callee) (Evaluates 𝓤 H A sh outcome)
-          → ((ν : ℕ) (δ : GName) → Opds (Go {0}) W (raw (Evaluates 𝓤 H A sh outcome .pre (with sh outcome x y l ν δ))
+          → Triple 𝓤 (C callee) (Evaluates sh outcome _ 𝓤 H A)
+          → ((ν : ℕ) (δ : GName) → Opds (Go {0}) W (raw (Evaluates sh outcome _ 𝓤 H A .pre (with sh outcome x y l ν δ))
           ∷ ‵ (Kept (Entry (L .wide)) l j (blanks L) ν δ) ∷ Γ) E ops
-          (Evaluates 𝓤 H A sh outcome .args (with sh outcome x y l ν δ)))
+          (Evaluates sh outcome _ 𝓤 H A .args (with sh outcome x y l ν δ)))
           → ((s : Said κ₂ settings (xs .now) j sh outcome x y)
           → Sq W (‵ (row (Entry (L .wide)) fullShare (s .ws ++ without j (blanks L)) l 0)
           ∷ Gone 𝓤 κ₁ κ₂ q₁ q₂ xs sh x y (s .zs) (s .l₃) (s .l₄) ++ Γ) (lands C Λ E d (P .val (s .answer)) b q))
@@ -377,8 +378,8 @@ module _ (L : Listing) (P : Plain) {T : Type 0} (told : P .row .Denot → T) whe
           -- [what the arguments own; the words' token; what is kept; the store's token; the second; …]
           nothing ! $ move ! (2 ∷ 0 ∷ []) $ join ! $ move ! (4 ∷ 0 ∷ []) $ join ! $ move ! (3 ∷ 0 ∷ []) $ join ! $
           join ! $ nothing ! $ move ! (1 ∷ 0 ∷ []) $ join ! $
-          use1 W (raw (Evaluates 𝓤 H A (single t X) outcome .pre (with (single t X) outcome x y l ν δ))) (id⊢ 𝓤 _) $
-          calls-at ! fm (Evaluates 𝓤 H A (single t X) outcome) known (with (single t X) outcome x y l ν δ) (opds ν δ)
+          use1 W (raw (Evaluates (single t X) outcome _ 𝓤 H A .pre (with (single t X) outcome x y l ν δ))) (id⊢ 𝓤 _) $
+          calls-at ! fm (Evaluates (single t X) outcome _ 𝓤 H A) known (with (single t X) outcome x y l ν δ) (opds ν δ)
           (λ w. answers P ! tt (‵ (flft κ₁ q₁) ⊛ ‵ (flft κ₂ q₂) ⊛ ‵ (flft (ν ∷ []) fullShare) ⊛ ‵ ftrue)
           (lasts (calling (single t X)) (κ₁, (κ₂, (ν ∷ [], tt))) (with (single t X) outcome x y l ν δ .0 .3))
           (λ r zs. Did (single t X) κ₂ y (take j (blanks L))
@@ -406,8 +407,8 @@ module _ (L : Listing) (P : Plain) {T : Type 0} (told : P .row .Denot → T) whe
           has SettingsOf ! settings settings-is $ fjoin ! $ move ! (3 ∷ 0 ∷ []) $ fjoin ! $
           nothing ! $ move ! (5 ∷ 0 ∷ []) $ join ! $ move ! (2 ∷ 0 ∷ []) $ join ! $ move ! (3 ∷ 0 ∷ []) $ join ! $
           join ! $ nothing ! $ move ! (1 ∷ 0 ∷ []) $ join ! $
-          use1 W (raw (Evaluates 𝓤 H A (paired X S σ) outcome .pre (with (paired X S σ) outcome x y l ν δ))) (id⊢ 𝓤 _) $
-          calls-at ! fm (Evaluates 𝓤 H A (paired X S σ) outcome) known (with (paired X S σ) outcome x y l ν δ) (opds ν δ)
+          use1 W (raw (Evaluates (paired X S σ) outcome _ 𝓤 H A .pre (with (paired X S σ) outcome x y l ν δ))) (id⊢ 𝓤 _) $
+          calls-at ! fm (Evaluates (paired X S σ) outcome _ 𝓤 H A) known (with (paired X S σ) outcome x y l ν δ) (opds ν δ)
           (λ w. answers P ! tt (‵ (flft κ₁ q₁) ⊛ ‵ (flft (ν ∷ []) fullShare) ⊛ ‵ (flft κ₂ q₂) ⊛ ‵ ftrue)
           (lasts (calling (paired X S σ)) (κ₁, (ν ∷ [], (κ₂, tt))) (with (paired X S σ) outcome x y l ν δ .0 .3))
           (λ r zs. Did (paired X S σ) κ₂ y (take j (blanks L))
@@ -442,7 +443,7 @@ module _ (L : Listing) (P : Plain) {T : Type 0} (told : P .row .Denot → T) whe
         pub evaluates : (sh : Shape) (outcome : Outcomes sh) (x : third sh .row κ₂ .Denot) (y : fourth sh .row κ₂ .Denot)
             (bs : Blocks (locals L P sh))
             → Is (third sh .row κ₂) x (third sh .val κ₂ x ∷ []) → Is (fourth sh .row κ₂) y (fourth sh .val κ₂ y ∷ [])
-            → Triple 𝓤 (C callee) (Evaluates 𝓤 H A sh outcome)
+            → Triple 𝓤 (C callee) (Evaluates sh outcome _ 𝓤 H A)
             → ((s : Said κ₂ settings (xs .now) j sh outcome x y) (u₁ u₂ u₃ u₄ u₅ u₆ : Val)
             → Sq W (‵ (row (Entry (L .wide)) fullShare (s .ws ++ without j (blanks L)) (block L P sh bs) 0)
             ∷ Gone 𝓤 κ₁ κ₂ q₁ q₂ xs sh x y (s .zs) (s .l₃) (s .l₄) ++ before sh x y bs (full (P .val (s .answer)))
