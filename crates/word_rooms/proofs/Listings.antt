@@ -14,7 +14,7 @@ use Rattle.entry_records.specs.Records.{electedOf, movedOf}
 use Rattle.entry_records.proofs.EntryWords.{elected-read, moved-read}
 use Rattle.evaluation.proofs.Rooms.{UuidChild, Listed, ListsElected}
 use Rattle.listing.specs.Entries.{electedWords, movedWords}
-use Rattle.walks.proofs.Constants.{records, moves}
+use Rattle.walks.proofs.Constants.{records, moves, mostMoves}
 use Rattle.walks.proofs.Types.{ElectedOf, MovedOf}
 use Rattle.walks.proofs.WordCalls.{Listing, Left, Lists}
 
@@ -55,6 +55,17 @@ elects count call lists cut = record {
   counted = λ room. lists room .0 .counted;
   few = λ room. lists room .0 .few;
   back = λ room. entries-read (call room .entries) (lists room .1);
+  cut = cut;
+}
+
+-- a call that lists moved ones
+pub shifts : {T B : Type 0} (count : T → ℕ) (call : ℕ → Left T Moved B)
+    → ((room : ℕ) → Listed (count (call room .told)) (call room .entries) room)
+    → ((room : ℕ) → call (min room mostMoves) ≡ call room) → Lists moved count call
+shifts count call lists cut = record {
+  counted = λ room. lists room .counted;
+  few = λ room. lists room .few;
+  back = λ room. moves-read (call room .entries);
   cut = cut;
 }
 
