@@ -79,8 +79,18 @@ module _ {M : Type 1} {𝓤 : URA M} {H : Heap 𝓤} {A : Atoms 𝓤} {K : Type 
         (guardI 𝓤 (Typed τ v) (sep 𝓤 (H .room τ b o) (wand 𝓤 (H .at fullShare τ b o v) P)) wt));
   }
 
-  -- the first part of an item is taken out of it to the front, and put back
   module _ {G : Goal 𝓤 H} where
+    -- what a local holds is forgotten
+    pub forgets : K → (n : ℕ) {τ : Ty} {b o : ℕ} {v : Val} {j : Item 𝓤} → nth 𝓤 H A n Γ ≡ (‵ (fat fullShare τ b o v) ⊛ j)
+        → Step K W (put 𝓤 H A n (‵ (froom τ b o) ⊛ j) Γ) G Γ G
+    forgets t n {τ} {b} {o} {v} {j} e = step (λ s. by t
+        (via 𝓤 (sep 𝓤 (sep 𝓤 (H .at fullShare τ b o v) (mean 𝓤 H A j)) (⋆ 𝓤 H A (del 𝓤 H A n Γ)))
+        (subst (λ (k : Item 𝓤). ent 𝓤 (⋆ 𝓤 H A Γ) (sep 𝓤 (mean 𝓤 H A k) (⋆ 𝓤 H A (del 𝓤 H A n Γ)))) e (pull 𝓤 H A n Γ))
+        (via 𝓤 (sep 𝓤 (sep 𝓤 (H .room τ b o) (mean 𝓤 H A j)) (⋆ 𝓤 H A (del 𝓤 H A n Γ)))
+        (monoL 𝓤 (⋆ 𝓤 H A (del 𝓤 H A n Γ)) (monoL 𝓤 (mean 𝓤 H A j) (W .laws .at-room τ b o v)))
+        (via 𝓤 (⋆ 𝓤 H A (put 𝓤 H A n (‵ (froom τ b o) ⊛ j) Γ)) (fill 𝓤 H A n (‵ (froom τ b o) ⊛ j) Γ) (s .prf)))))
+
+    -- the first part of an item is taken out of it to the front, and put back
     pub takes : K → (n : ℕ) {i j : Item 𝓤} → nth 𝓤 H A n Γ ≡ (i ⊛ j) → Step K W (i ∷ put 𝓤 H A n j Γ) G Γ G
     takes t n {i} {j} e = step (λ s. by t
         (via 𝓤 (sep 𝓤 (mean 𝓤 H A (i ⊛ j)) (⋆ 𝓤 H A (del 𝓤 H A n Γ)))

@@ -18,7 +18,7 @@ use prog.Model.{Model}
 use prog.Routine.{Env as RoutineEnv}
 use prog.Wp.{Heap, Env, Calls, Loops, WpFn, Closed, Tables}
 use ghost.Atoms.{Atoms}
-use contract.Running.{GhostRules, Running, givenOf, tables, tablesOf}
+use contract.Running.{GhostRules, Running, givenOf, tables}
 use types.Kit.{Given, Item, Sq, runs, atRet, ‵, raw, _⊛_, ⋆, _$_, _∵_, !, qed, by, move, keep, drop, use1, use2, split, join, fsplit, fjoin}
 use types.Kit.{suffices, frame, done}
 use types.Run.{and-then, no-more, assigns, land, from, stop, fld, load, of-opd, lit}
@@ -33,8 +33,7 @@ use denote.Exit.{yes, Seen, see}
 use denote.Signature.{plain}
 use denote.Steps.{nothing}
 use denote.Triple.Entry.{onEntry}
-use denote.Triple.Spec.{Meets, tripleOf}
-use denote.Triple.Table.{entered}
+use denote.Triple.Spec.{Meets}
 use denote.Triple.Statement.{Triple}
 use denote.Triple.Clauses.{Ended, Clauses, closing}
 use denote.Triple.Walked.{walkOf, ends-at}
@@ -46,7 +45,7 @@ use Rattle.walks.proofs.Cells.{Blocks, envOf, cells, held, reads, sets,
 use Rattle.walks.proofs.Claims.{All, claims, claimed, the-first, others-and}
 use Rattle.walks.proofs.FillLoop.{Fills}
 use Rattle.walks.proofs.Frame.{Cell, room as empty, full, away}
-use Rattle.walks.proofs.Known.{Promise, Known, knows}
+use Rattle.walks.proofs.Known.{Promise, Known}
 use Rattle.walks.proofs.Lending.{Computes, computes, relends, points}
 use Rattle.walks.proofs.Lent.{has}
 use Rattle.walks.proofs.Locals.{to-row, row-room}
@@ -338,19 +337,13 @@ module _ (L : Listing) (P : Plain) {T : Type 0} (told : P .row .Denot → T) (co
         → γ (least .name) ≡ least .routine → γ (callee .name) ≡ callee .routine → γ (counter .name) ≡ counter .routine
         → γ (filler .name) ≡ filler .routine
         → Meets 𝓤 H (𝓖 .A) (signed .signature) (𝓡 .run (γ name)) (closing 𝓤 H (𝓖 .A) signed (clauses 𝓤))
-    unfolding tablesOf
     proved 𝓤 H 𝓜 𝓖 𝓡 γ name closed e₀ e₁ e₂ e₃ =
-        let A : Atoms 𝓤 = 𝓖 .A in
-        let W : Given 𝓤 H A = givenOf 𝓤 H 𝓜 𝓖 in
-        let 𝓣 : Tables 𝓤 H = tablesOf 𝓤 H 𝓜 (tables 𝓤 H 𝓜 𝓡 γ) in
-        entered 𝓤 H (tripleOf 𝓤 H A (signed .signature) (closing 𝓤 H A signed (clauses 𝓤))) (tables 𝓤 H 𝓜 𝓡 γ .C)
-        (tables 𝓤 H 𝓜 𝓡 γ .Λ) name whole closed
-        (params.meets 3 Ps (plain (λ κs. P .row)) 𝓤 H A W (clauses 𝓤) whole 𝓣 (λ κs qs bounds a g are.
-        walk 𝓤 H A W (κs .0) (κs .1 .0) (κs .1 .1 .0) (qs .0) (qs .1 .0) (qs .1 .1 .0) (a .0) (a .1 .0) (a .1 .1 .0)
+        let W : Given 𝓤 H (𝓖 .A) = givenOf 𝓤 H 𝓜 𝓖 in
+        params.proved 3 Ps (plain (λ κs. P .row)) 𝓤 H 𝓜 𝓖 𝓡 (clauses 𝓤) whole γ name closed (λ 𝓣 known κs qs bounds a g are.
+        walk 𝓤 H (𝓖 .A) W (κs .0) (κs .1 .0) (κs .1 .1 .0) (qs .0) (qs .1 .0) (qs .1 .1 .0) (a .0) (a .1 .0) (a .1 .1 .0)
         (a .1 .1 .1 .0) (a .1 .1 .1 .1 .0) (are .1 .0)
         (lists (κs .1 .0) (a .1 .0) (a .1 .1 .0) (a .1 .1 .1 .0) (a .0 .now)) (𝓣 .C) (𝓣 .Λ) (fmOf 𝓤 H (W .laws) 𝓣)
-        (least .name) (callee .name) (counter .name) (filler .name) (knows 𝓤 H 𝓜 𝓖 𝓡 γ Least least e₀)
-        (knows 𝓤 H 𝓜 𝓖 𝓡 γ (Evaluates L P told sh outcome) callee e₁)
-        (knows 𝓤 H 𝓜 𝓖 𝓡 γ (Counts P (λ r. count (told r))) counter e₂)
-        (knows 𝓤 H 𝓜 𝓖 𝓡 γ (Fills R (L .wide) (L .of)) filler e₃) (are .0 .0 .1) (are .1 .1 .1 .1 .0 .0 .1)
-        (are .1 .1 .0) (are .1 .1 .1 .0)))
+        (least .name) (callee .name) (counter .name) (filler .name) (known Least least e₀)
+        (known (Evaluates L P told sh outcome) callee e₁) (known (Counts P (λ r. count (told r))) counter e₂)
+        (known (Fills R (L .wide) (L .of)) filler e₃) (are .0 .0 .1) (are .1 .1 .1 .1 .0 .0 .1) (are .1 .1 .0)
+        (are .1 .1 .1 .0))
