@@ -60,10 +60,10 @@ use Rattle.walks.proofs.Written.{written-back}
 
 -- ---- the callees beside the evaluation: the least of two numbers, and how many entries an answer counts
 abbrev pub Least : Promise
-Least = Computes (plain (λ κs. usize) ∷ plain (λ κs. usize) ∷ []) (yes, (yes, tt)) word (λ a r. r ≡ min (a .0) (a .1 .0))
+Least = Computes (word ∷ word ∷ []) word (λ a r. (r ≡ min (a .0) (a .1 .0)) ∷ [])
 
 abbrev pub Counts : (P : Plain) → (P .row .Denot → ℕ) → Promise
-Counts P count = Computes (plain (λ κs. P .row) ∷ []) (yes, tt) word (λ a r. r ≡ count (a .0))
+Counts P count = Computes (P ∷ []) word (λ a r. (r ≡ count (a .0)) ∷ [])
 
 module _ (L : Listing) (P : Plain) {T : Type 0} (told : P .row .Denot → T) (count : T → ℕ) (sh : Shape)
     (outcome : Outcomes L P told sh) where
@@ -257,8 +257,7 @@ module _ (L : Listing) (P : Plain) {T : Type 0} (told : P .row .Denot → T) (co
           writes =
               relends ! 8 5 18 refl refl refl (tt, tt) refl refl refl (tt, (tt, (record { fits = fits₃ .0 }, tt))) $
               points ! 8 6 20 refl (tt, tt) refl (L .most .reads !) refl (tt, (tt, (record { fits = L .fits .0 }, tt))) $
-              computes (plain (λ κs. P .row) ∷ []) (yes, tt) word (λ a r. r ≡ count (told (a .0))) ! fm known₂
-              (s .answer, tt) (P .val (s .answer) ∷ [], tt) (P ∷ []) (s .answer, tt) (s .is, tt) refl
+              computes (P ∷ []) word (λ a r. (r ≡ count (told (a .0))) ∷ []) ! fm known₂ (s .answer, tt) (s .is, tt)
               (and-then ! (reads ! 17 refl) (no-more !)) (λ i i-is counted.
               land ! (from ! (stop !)) (store-in ! 18 (held !) (word .typed 𝓤 H A W i _ i-is)) $ move ! (0 ∷ 6 ∷ 7 ∷ []) $
               -- in the call: [what it asks; the lender's part; what is left of the three; the locals (7)]
@@ -291,9 +290,8 @@ module _ (L : Listing) (P : Plain) {T : Type 0} (told : P .row .Denot → T) (co
             (to-row 𝓤 H A W (Entry (L .wide)) m l tt (blanks L) (blankVal (L .wide) m)) $
             assigns ! (of-opd ! (load ! (from ! (fld ! refl (stop !))) (look-in ! 13 (sub ! 1 refl (held !)))))
             (from ! (stop !)) (sets ! 18 refl (tt, record { fits = fits₃ .0 })) $
-            computes (plain (λ κs. usize) ∷ plain (λ κs. usize) ∷ []) (yes, (yes, tt)) word
-            (λ a r. r ≡ min (a .0) (a .1 .0)) ! fm known₀ (n, (m, tt)) (vint w64 n ∷ [], (vint w64 m ∷ [], tt))
-            (word ∷ word ∷ []) (n, (m, tt)) ((refl, fits₃ .0), ((refl, L .fits .0), tt)) refl
+            computes (word ∷ word ∷ []) word (λ a r. (r ≡ min (a .0) (a .1 .0)) ∷ []) ! fm known₀ (n, (m, tt))
+            ((refl, fits₃ .0), ((refl, L .fits .0), tt))
             (and-then ! (reads ! 19 refl) (and-then ! (L .most .reads !) (no-more !))) (λ j j-is room-is.
             land ! (from ! (stop !)) (sets ! 15 refl (word .typed 𝓤 H A W j _ j-is)) $
             evaluates L P told 𝓤 H A W κ₁ κ₂ q₁ q₂ xs settings settings-is j (omega (arith, room-is)) C Λ fm callee
