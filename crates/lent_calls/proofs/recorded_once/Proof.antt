@@ -2,15 +2,12 @@
 use mathlib.Core.Path.{_≡_, refl}
 use Prim.Native.Nat.{ℕ}
 use mathlib.Core.List.{[], _∷_, List}
-use contract.Monad.{top}
-use denote.Triple.Clauses.{Clauses, closing}
-use types.Kit.{Sq, runs, atRet}
-use Rattle.walks.proofs.WalkSteps.{URA, fullShare, named, w64, Val, vint, vptr, SProp, ent, emp, id⊢, via, GName, ftrue}
-use Rattle.walks.proofs.WalkSteps.{flft, Heap, Calls, Loops, WpFn, Atoms, givenOf, Given, ‵, raw, _⊛_, _$_, _∵_, !, qed}
-use Rattle.walks.proofs.WalkSteps.{by, move, drop, use2, split, fsplit, fjoin, suffices, frame, done, stop, from, addr}
-use Rattle.walks.proofs.WalkSteps.{of-opd, and-then, no-more, assigns, land, FmC, RefT, MutRef, plain, nothing, tripleOf}
-use Rattle.walks.proofs.WalkSteps.{Triple, calls-at, lasts, walkOf, ends-at}
-use sound.WpLaws.{fmOf}
+use Rattle.walks.proofs.WalkSteps.{top, Clauses, closing, URA, fullShare, named, w64, Val, vint, vptr, SProp, ent}
+use Rattle.walks.proofs.WalkSteps.{emp, id⊢, via, GName, ftrue, flft, Heap, Calls, Loops, WpFn, Atoms, givenOf, Given}
+use Rattle.walks.proofs.WalkSteps.{‵, raw, _⊛_, _$_, _∵_, !, qed, by, move, drop, use2, split, fsplit, fjoin}
+use Rattle.walks.proofs.WalkSteps.{suffices, frame, done, stop, from, addr, of-opd, and-then, no-more, assigns, land}
+use Rattle.walks.proofs.WalkSteps.{FmC, MutRef, plain, nothing, tripleOf, Triple, calls-at, lasts, walkOf, ends-at}
+use Rattle.walks.proofs.WalkSteps.{fmOf}
 use Rattle.book.specs.declared.LastPrice.{LastPrice}
 use Rattle.book.specs.declared.PrintPath.{PrintPath}
 use Rattle.book.specs.Path.{recorded}

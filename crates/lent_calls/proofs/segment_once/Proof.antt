@@ -5,20 +5,14 @@ use Prim.Native.Nat.{ℕ}
 use mathlib.Core.List.{[], _∷_, _++_, List}
 use lib.Dec.{lit<}
 use lib.ListN.{length, take, drop as without}
-use types.Kit.{Item, Sq, use1, runs, atRet}
-use types.Run.{lit}
-use sound.WpLaws.{fmOf}
-use prog.Wp.{Env}
-use denote.Exit.{yes, left}
-use denote.Signature.{mutSliceOf}
 use denote.Struct.Laws.{lawful}
-use denote.Triple.Clauses.{Clauses, closing}
-use Rattle.walks.proofs.WalkSteps.{URA, fullShare, named, w64, Val, vint, vptr, vunit, SProp, ent, emp, id⊢, Lft, Share}
-use Rattle.walks.proofs.WalkSteps.{GName, ftrue, flft, Heap, Calls, Loops, WpFn, Atoms, givenOf, Given, ‵, raw, _⊛_, ⋆}
-use Rattle.walks.proofs.WalkSteps.{_$_, _∵_, !, qed, by, move, keep, drop, split, join, fsplit, fjoin, feqL, suffices}
-use Rattle.walks.proofs.WalkSteps.{frame, done, stop, from, of-opd, and-then, no-more, assigns, land, unit-lit, FmC, owns}
-use Rattle.walks.proofs.WalkSteps.{RefT, sliceVal, MutSlice, Room, slice-vals, mut-slice-tells, u64, plain, nothing}
-use Rattle.walks.proofs.WalkSteps.{tripleOf, Triple, calls-at, lasts, walkOf, ends-at}
+use Rattle.walks.proofs.WalkSteps.{Item, Sq, use1, runs, atRet, lit, fmOf, Env, yes, left, mutSliceOf, Clauses}
+use Rattle.walks.proofs.WalkSteps.{closing, URA, fullShare, named, Val, vunit, SProp, ent, emp, id⊢, Lft, Share}
+use Rattle.walks.proofs.WalkSteps.{GName, ftrue, flft, Heap, Calls, Loops, WpFn, Atoms, givenOf, Given, ‵, raw, _⊛_}
+use Rattle.walks.proofs.WalkSteps.{⋆, _$_, _∵_, !, qed, by, move, keep, drop, split, join, fsplit, fjoin, feqL}
+use Rattle.walks.proofs.WalkSteps.{suffices, frame, done, stop, from, of-opd, and-then, no-more, assigns, land}
+use Rattle.walks.proofs.WalkSteps.{unit-lit, FmC, owns, RefT, sliceVal, MutSlice, Room, slice-vals, mut-slice-tells}
+use Rattle.walks.proofs.WalkSteps.{u64, plain, nothing, tripleOf, Triple, calls-at, lasts, walkOf, ends-at}
 use Rattle.book.specs.Answers.{toldCounts}
 use Rattle.book.specs.Calls.{written, segmentCall}
 use Rattle.book.specs.declared.Elected.{Elected}
