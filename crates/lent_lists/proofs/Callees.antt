@@ -2,7 +2,7 @@
 use Rattle.book.specs.Sizes.{electedLength, movedLength}
 use Rattle.entry_records.specs.Records.{electedOf, movedOf}
 use Rattle.walks.proofs.FillLoop.{Fills}
-use Rattle.walks.proofs.Known.{Known}
+use Rattle.walks.proofs.Contracts.{Known}
 use Rattle.walks.proofs.Types.{ElectedOf, MovedOf}
 use Rattle.lent_lists.proofs.fill_elected.Symbol as elected-def
 use Rattle.lent_lists.proofs.fill_elected.Met as elected-thm

@@ -1,5 +1,5 @@
 -- Statements of a walked function whose locals stand behind g items, each local by its number: a lent slice is lent
--- again, a local array is lent as a slice, and a function on plain values is called.
+-- again, and a local array is lent as a slice.
 use mathlib.Core.Path.{_≡_, refl, sym, subst}
 use Prim.Native.Nat.{ℕ, suc, _+_}
 use mathlib.Core.List.{List, [], _∷_}
@@ -8,22 +8,14 @@ use lib.ListN.{getD}
 use mir.Syntax.{place}
 use mir.Fields.{getV}
 use types.Run.{Walks, Opd}
-use Rattle.walks.proofs.WalkSteps.{URA, fullShare, Ty, PStep, Opd as Operand, Place, Body, Name, w64, tyInt}
-use Rattle.walks.proofs.WalkSteps.{tcons, tnil, field, deref, copy, addrOf, aggregate, assign, seq, call, Val}
-use Rattle.walks.proofs.WalkSteps.{vptr, vint, vcons, vnil, emp, id⊢, ftrue, fieldAt, Heap, Env, Spot, Calls}
-use Rattle.walks.proofs.WalkSteps.{Loops, noLocal, Atoms, Given, Item, Post, Seq, Step, step, runs, lands, ‵}
-use Rattle.walks.proofs.WalkSteps.{raw, nth, put, _$_, use0, use1, drop, join, Reads, Finds, Opds, stop, hop}
-use Rattle.walks.proofs.WalkSteps.{fld, from, load, addr, and-then, no-more, assigns, Part, agg, sub, look-in}
-use Rattle.walks.proofs.WalkSteps.{FmC, RattleType, Denots, Valss, owns, flat, Is, Ises, Are, Makess, valss}
-use Rattle.walks.proofs.WalkSteps.{owns-make, sliceTy, sliceVal, plain, typesAt, nothing, tripleOf, Triple}
-use Rattle.walks.proofs.WalkSteps.{calls-at, Ended, closing, lasts}
+use Rattle.walks.proofs.WalkSteps.{URA, fullShare, Ty, PStep, Opd as Operand, Body, w64, tyInt, tcons, tnil}
+use Rattle.walks.proofs.WalkSteps.{field, deref, copy, addrOf, aggregate, assign, seq, vptr, vint, vcons, vnil}
+use Rattle.walks.proofs.WalkSteps.{fieldAt, Heap, Env, Spot, Calls, Loops, noLocal, Atoms, Given, Item, Post}
+use Rattle.walks.proofs.WalkSteps.{Step, step, runs, nth, put, _$_, Reads, Finds, stop, hop, fld, from, load}
+use Rattle.walks.proofs.WalkSteps.{addr, and-then, no-more, assigns, Part, agg, sub, look-in, sliceTy}
+use Rattle.walks.proofs.WalkSteps.{sliceVal}
 use Rattle.walks.proofs.Cells.{Typed, cell, cellAt, held, reads, sets}
-use Rattle.walks.proofs.Claims.{All, claims}
 use Rattle.walks.proofs.Frame.{room, full}
-use Rattle.walks.proofs.Known.{Promise}
-use Rattle.walks.proofs.Lent.{answers}
-use Rattle.walks.proofs.Params.{values, slots, spelled, ended}
-use Rattle.walks.proofs.Plain.{Plain, Stands, value, stands}
 
 module _ {M : Type 1} {𝓤 : URA M} {H : Heap 𝓤} {A : Atoms 𝓤} {K : Type 0} {W : Given 𝓤 H A} {Γ : List (Item 𝓤)} where
   -- a field of the slice in a local, and a place within a local
@@ -72,49 +64,3 @@ module _ {M : Type 1} {𝓤 : URA M} {H : Heap 𝓤} {A : Atoms 𝓤} {K : Type 
       assigns t (addr t (from t (stop t))) (from t (stop t)) (sets t (g + d) free wt) $
       assigns t (agg t (and-then t (reads t (g + d) set) (and-then t count (no-more t)))) (from t (stop t))
       (sets t (g + suc d) free′ wt′) $ s)
-
--- a plain answer lands as its value
-pub lands-as : {M : Type 1} {𝓤 : URA M} {H : Heap 𝓤} {A : Atoms 𝓤} {K : Type 0} {W : Given 𝓤 H A} {Γ : List (Item 𝓤)} {C : Calls 𝓤 H}
-    {Λ : Loops 𝓤 H} {E : Env 𝓤 H} {q : Post 𝓤 H} {d : Place} {rest : Body} (P : Plain) → K → (r : P .row .Denot) (w : Val)
-    → Is (P .row) r (w ∷ [])
-    → Step K W Γ (lands C Λ E d (P .val r) rest q) Γ (lands C Λ E d w rest q)
-lands-as {K = K} {W = W} {Γ} {C} {Λ} {E} {q} {d} {rest} P t r w is = step
-    (λ s. subst (λ (v : Val). Seq K W Γ (lands C Λ E d v rest q)) (sym (value P r w is)) s)
-
--- ---- a function on plain values
-makess : (Ps : List Plain) {M : Type 1} (𝓤 : URA M) (H : Heap 𝓤) (A : Atoms 𝓤) → Given 𝓤 H A
-    → Makess 𝓤 H A (typesAt (slots 0 (values 0 Ps)) tt) (Ises (typesAt (slots 0 (values 0 Ps)) tt))
-makess [] 𝓤 H A W = tt
-makess (P ∷ Ps) 𝓤 H A W = (P .makes 𝓤 H A W, makess Ps 𝓤 H A W)
-
-module _ (Ps : List Plain) (P : Plain) (φs : Denots (typesAt (slots 0 (values 0 Ps)) tt) → P .row .Denot → List (Type 0)) where
-  abbrev rows : List RattleType
-  rows = typesAt (slots 0 (values 0 Ps)) tt
-
-  abbrev computing : Ended
-  computing = ended 0 (values 0 Ps) (plain (λ κs. P .row))
-
-  -- it answers an r with φs
-  abbrev pub Computes : Promise
-  Computes M 𝓤 H A = tripleOf 𝓤 H A (computing .signature) (closing 𝓤 H A computing (λ κs args. record {
-    ghost = Unit {0};
-    requires = λ _. emp 𝓤;
-    ensures = λ _ r end. claims 𝓤 (φs args r);
-  }))
-
-  abbrev vals : Denots rows → Valss rows
-  vals a = valss rows (spelled 0 tt (values 0 Ps)) a
-
-  -- it is called with a
-  pub computes : {M : Type 1} {𝓤 : URA M} {H : Heap 𝓤} {A : Atoms 𝓤} {K : Type 0} {W : Given 𝓤 H A} {Γ : List (Item 𝓤)}
-      {C : Calls 𝓤 H} {Λ : Loops 𝓤 H} {E : Env 𝓤 H} {q : Post 𝓤 H} {f : Name} {xs : List Operand} {d : Place} {rest : Body} → K
-      → FmC 𝓤 H (W .laws) C → Triple 𝓤 (C f) (Computes _ 𝓤 H A) → (a : Denots rows) → Are rows (Ises rows) a (vals a)
-      → Opds K W (raw (Computes _ 𝓤 H A .pre ((tt, tt, tt, a, vals a), tt)) ∷ Γ) E xs (flat rows (vals a))
-      → ((r : P .row .Denot) → Stands P r → All (φs a r) → Seq K W Γ (lands C Λ E d (P .val r) rest q))
-      → Seq K W Γ (runs C Λ E (seq (call f xs d) rest) q)
-  computes {𝓤 = 𝓤} {H} {A} {W = W} t fm known a are opds go =
-      nothing t $ use0 W (‵ (owns rows a (vals a))) (owns-make 𝓤 H A rows (Ises rows) (makess Ps 𝓤 H A W) a (vals a) are) $
-      nothing t $ join t $ join t $ use1 W (raw (Computes _ 𝓤 H A .pre ((tt, tt, tt, a, vals a), tt))) (id⊢ 𝓤 _) $
-      calls-at t fm (Computes _ 𝓤 H A) known ((tt, tt, tt, a, vals a), tt) opds (λ w.
-      answers P t tt (‵ ftrue) (lasts computing tt a) (λ r _. φs a r) w (id⊢ 𝓤 _) (λ r zs is e. drop t $ drop t $
-      lands-as P t r w is $ go r (stands P r w is) e))

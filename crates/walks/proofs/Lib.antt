@@ -3,14 +3,13 @@ pub mod Buffers
 pub mod Cells
 pub mod Claims
 pub mod Constants
+pub mod Contracts
 pub mod ListCalls
 pub mod FillLoop
 pub mod Frame
-pub mod Known
 pub mod Lending
 pub mod Lent
 pub mod Lets
-pub mod Locals
 pub mod Params
 pub mod ThinStores
 pub mod Plain

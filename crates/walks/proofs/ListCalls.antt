@@ -9,41 +9,40 @@ use mathlib.Core.List.{[], _∷_, _++_, List, map}
 use lib.ListN.{length, take, drop as without, length-take}
 use lib.Seq.{length-front}
 use mir.Syntax.{place}
+use contract.Lifetimes.{Lfts, Shares}
 use Rattle.walks.proofs.WalkSteps.{URA, fullShare, Name, Fn, Body, named, w64, tyInt, tyArray, field, copy}
-use Rattle.walks.proofs.WalkSteps.{int, rvOpd, repeat, assign, seq, return, call, Val, vint, vptr, SProp, ent}
-use Rattle.walks.proofs.WalkSteps.{id⊢, emp, Lft, Share, GName, Fml, ftrue, froom, flft, Model, RoutineEnv}
-use Rattle.walks.proofs.WalkSteps.{Heap, Env, Calls, Loops, WpFn, Closed, Atoms, GhostRules, Running, givenOf}
-use Rattle.walks.proofs.WalkSteps.{tables, Given, Sq, runs, atRet, ‵, _⊛_, ⋆, _$_, _∵_, !, qed, by, move, keep}
-use Rattle.walks.proofs.WalkSteps.{drop, use1, use2, split, join, fsplit, fjoin, suffices, frame, done}
-use Rattle.walks.proofs.WalkSteps.{and-then, no-more, assigns, land, from, stop, fld, load, of-opd, lit, rep}
-use Rattle.walks.proofs.WalkSteps.{sub, look-in, store-in, FmC, fmOf, owns, Is, u64, RefT, sliceVal, MutSlice}
-use Rattle.walks.proofs.WalkSteps.{Room, finally, slice-vals, mut-slice-tells, yes, Seen, see, plain, nothing}
-use Rattle.walks.proofs.WalkSteps.{Meets, Triple, Ended, Clauses, closing, walkOf, ends-at, row}
+use Rattle.walks.proofs.WalkSteps.{int, rvOpd, repeat, assign, seq, return, call, Val, vint, SProp, ent, Lft}
+use Rattle.walks.proofs.WalkSteps.{Share, Fml, ftrue, froom, flft, Model, RoutineEnv, Heap, Env, Calls, Loops}
+use Rattle.walks.proofs.WalkSteps.{WpFn, Closed, Atoms, GhostRules, Running, givenOf, tables, Given, Sq, runs}
+use Rattle.walks.proofs.WalkSteps.{atRet, ‵, _⊛_, ⋆, _$_, _∵_, !, qed, by, move, keep, drop, use1, use2, split}
+use Rattle.walks.proofs.WalkSteps.{join, fsplit, fjoin, and-then, no-more, assigns, land, from, stop, fld}
+use Rattle.walks.proofs.WalkSteps.{load, of-opd, lit, rep, sub, look-in, store-in, FmC, fmOf, Is, u64, RefT}
+use Rattle.walks.proofs.WalkSteps.{sliceVal, MutSlice, Room, finally, yes, Seen, see, nothing, Triple, row}
+use Rattle.walks.proofs.WalkSteps.{exit, rewrite, feqL, prop, now, Denots}
 use Rattle.book.specs.Calls.{written}
 use Rattle.book.specs.declared.Settings.{Settings}
-use Rattle.walks.proofs.Buffers.{Entry, slot, blank-length, blankVal, zeros, zeroed, fills}
-use Rattle.walks.proofs.Cells.{Blocks, envOf, cells, held, reads, sets, takes, puts, enters, leaves}
-use Rattle.walks.proofs.Claims.{All, claims, claimed, the-first, others-and}
+use Rattle.walks.proofs.Buffers.{Entry, slot, blank-length, blankVal, zeros, zeroed, to-row, row-room, lends-all, all-back}
+use Rattle.walks.proofs.Cells.{Blocks, envOf, cells, cellAt, held, reads, sets, takes, puts, enters, leaves}
+use Rattle.walks.proofs.Claims.{All, the-first, others-and}
+use Rattle.walks.proofs.Contracts.{Form, Known, Keeps, rows, ends, calls, Computes, computes}
+use Rattle.walks.proofs.Contracts as contracts
 use Rattle.walks.proofs.FillLoop.{Fills}
 use Rattle.walks.proofs.Frame.{Cell, room as empty, full, away}
-use Rattle.walks.proofs.Known.{Promise, Known}
-use Rattle.walks.proofs.Lending.{Computes, computes, relends, points}
+use Rattle.walks.proofs.Lending.{relends, points}
 use Rattle.walks.proofs.Lent.{has}
-use Rattle.walks.proofs.Locals.{to-row, row-room}
-use Rattle.walks.proofs.Params.{Param, handed, value, lent, ended, stays}
-use Rattle.walks.proofs.Params as params
-use Rattle.walks.proofs.Plain.{Plain, Stands, word}
+use Rattle.walks.proofs.Params.{lent}
+use Rattle.walks.proofs.Plain.{Plain, Stands, word, unit}
 use Rattle.walks.proofs.Types.{SettingsOf}
-use Rattle.walks.proofs.WordCalls.{Listing, blanks, Lists, Shape, third, fourth, Other, Rest, slotOf, store, again, part}
+use Rattle.walks.proofs.WordCalls.{Listing, blanks, Lists, Shape, third, fourth, Rest, with-list, again, part}
 use Rattle.walks.proofs.WordCalls.{evaluates-to, locals, block, Outcome, Outcomes, Did, Evaluates, Said}
 use Rattle.walks.proofs.WordCalls.{Owned, Gone, evaluates}
 use Rattle.walks.proofs.Written.{written-back}
 
 -- ---- the callees beside the evaluation: the least of two numbers, and how many entries an answer counts
-abbrev pub Least : Promise
+abbrev pub Least : Form
 Least = Computes (word ∷ word ∷ []) word (λ a r. (r ≡ min (a .0) (a .1 .0)) ∷ [])
 
-abbrev pub Counts : (P : Plain) → (P .row .Denot → ℕ) → Promise
+abbrev pub Counts : (P : Plain) → (P .row .Denot → ℕ) → Form
 Counts P count = Computes (P ∷ []) word (λ a r. (r ≡ count (a .0)) ∷ [])
 
 module _ (L : Listing) (P : Plain) {T : Type 0} (told : P .row .Denot → T) (count : T → ℕ) (sh : Shape)
@@ -55,27 +54,20 @@ module _ (L : Listing) (P : Plain) {T : Type 0} (told : P .row .Denot → T) (co
   m = L .most .most
 
   -- ---- the function
-  abbrev Ps : List (Param 3)
-  Ps = handed 3 store (λ κs. slice-vals) (λ κs. mut-slice-tells (named 0) (κs .0) u64) ∷ value 3 SettingsOf
-      ∷ handed 3 (slotOf (third sh)) (λ κs d. third sh .val (κs .1 .0) d ∷ []) (λ κs. third sh .tells (κs .1 .0))
-      ∷ handed 3 (slotOf (fourth sh)) (λ κs d. fourth sh .val (κs .1 .0) d ∷ []) (λ κs. fourth sh .tells (κs .1 .0))
-      ∷ lent 3 2 tt (R .row) ∷ []
-
-  abbrev signed : Ended
-  signed = ended 3 Ps (plain (λ κs. P .row))
-
   abbrev Done : (κ : Lft) → fourth sh .row κ .Denot → List (R .row .Denot) → Outcome L P told sh → P .row .Denot
       → List ℕ → Seen (fourth sh .row κ .exit yes) → List (R .row .Denot) → List (Type 0)
   Done κ y before o r zs z ms =
       (told r ≡ o .told) ∷ (zs ≡ o .words) ∷ (Rest sh κ y z (o .others) ++ (ms ≡ written (o .entries) before) ∷ [])
 
-  abbrev clauses : {M : Type 1} (𝓤 : URA M) → Clauses 𝓤 signed
-  clauses 𝓤 κs a = record {
-    ghost = Unit {0};
-    requires = λ _. emp 𝓤;
-    ensures = λ _ r e. claims 𝓤 (Done (κs .1 .0) (a .1 .1 .1 .0) (a .1 .1 .1 .1 .0 .now)
+  abbrev Listed : Form
+  Listed = record {
+    lifetimes = 3;
+    params = with-list sh (lent 3 2 tt (R .row));
+    result = P;
+    asks = λ κs a. [];
+    tells = λ κs a r e. Done (κs .1 .0) (a .1 .1 .1 .0) (a .1 .1 .1 .1 .0 .now)
         (outcome (κs .1 .0) (a .1 .0) (a .1 .1 .0) (a .1 .1 .1 .0) (a .0 .now) (length (a .1 .1 .1 .1 .0 .now)))
-        r (e .0 .now) (e .1 .1 .1 .0) (e .1 .1 .1 .1 .0 .now));
+        r (e .0 .now) (e .1 .1 .1 .0) (e .1 .1 .1 .1 .0 .now);
   }
 
   -- the words are zeros; the room; the evaluation; the list; the answer
@@ -118,23 +110,17 @@ module _ (L : Listing) (P : Plain) {T : Type 0} (told : P .row .Denot → T) (co
     abbrev args : List Val
     args = s₁ ∷ SettingsOf .val settings ∷ third sh .val κ₂ x ∷ fourth sh .val κ₂ y ∷ s₃ ∷ []
 
-    abbrev y₀ : walkOf 𝓤 H A signed (stays 3 Ps) (clauses 𝓤) .Ghost
-    y₀ = (
-      (
-        (κ₁, (κ₂, (κ₃, tt))),
-        (q₁, (q₂, (q₃, tt))),
-        tt,
-        (xs, (settings, (x, (y, (xe, tt))))),
-        (
-          s₁ ∷ [],
-          (SettingsOf .val settings ∷ [], (third sh .val κ₂ x ∷ [], (fourth sh .val κ₂ y ∷ [], (s₃ ∷ [], tt)))),
-        ),
-      ),
-      tt,
-    )
+    abbrev κs : Lfts 3
+    κs = (κ₁, (κ₂, (κ₃, tt)))
+
+    abbrev qs : Shares 3
+    qs = (q₁, (q₂, (q₃, tt)))
+
+    abbrev a : Denots (rows Listed κs)
+    a = (xs, (settings, (x, (y, (xe, tt)))))
 
     abbrev Post : Val → SProp 𝓤
-    Post = walkOf 𝓤 H A signed (stays 3 Ps) (clauses 𝓤) .post y₀
+    Post = contracts.Post Listed 𝓤 H A κs qs a
 
     abbrev Records : Fml
     Records = MutSlice (named 2) κ₃ (R .row) .own xe (s₃ ∷ [])
@@ -185,20 +171,19 @@ module _ (L : Listing) (P : Plain) {T : Type 0} (told : P .row .Denot → T) (co
             (Post (P .val (s .answer)))
         exits ms long h =
             qed W (‵ (flft κ₃ q₃) ∷ ‵ (finally (R .row) (xe .name) ms)
-            ∷ Gone 𝓤 κ₁ κ₂ q₁ q₂ xs sh x y (s .zs) (s .l₃) (s .l₄)) ∵ suffices ! _
-            (ends-at 𝓤 H A signed (stays 3 Ps) (clauses 𝓤) W y₀ (P .val (s .answer)) (s .answer)
-            (s .zs, (tt, (s .l₃, (s .l₄, (ms, tt))))) (tt, (tt, (tt, (tt, (long, tt)))))) $
-            claimed ! (Done κ₂ y (xe .now) (out n) (s .answer) (s .zs) said ms)
-            (did .0, others-and _ _ _ rest (did .1 .0) (did .1 .1) (h ∙ ap (λ es. written es (xe .now)) entries-are)) $
-            -- the tokens, then what is left of the parameters
-            nothing ! $ move ! (1 ∷ 0 ∷ []) $ join ! $ move ! (2 ∷ 0 ∷ []) $ join ! $ move ! (2 ∷ 0 ∷ []) $ join ! $ frame ! $
-            nothing ! $ move ! (1 ∷ 0 ∷ []) $ fjoin ! $ move ! (1 ∷ 0 ∷ []) $ fjoin ! $ move ! (1 ∷ 0 ∷ []) $ fjoin ! $
-            nothing ! $ fjoin ! $ move ! (1 ∷ 0 ∷ []) $ fjoin ! $ frame ! $ has P ! (s .answer) (s .is) $ done !
+            ∷ Gone 𝓤 κ₁ κ₂ q₁ q₂ xs sh x y (s .zs) (s .l₃) (s .l₄)) ∵
+            -- [the list's token; its last list; the second token; the store's; of the fourth, the third, the store]
+            nothing ! $ move ! (2 ∷ 0 ∷ []) $ fjoin ! $ move ! (4 ∷ 0 ∷ []) $ fjoin ! $ move ! (4 ∷ 0 ∷ []) $ fjoin ! $
+            nothing ! $ fjoin ! $ move ! (4 ∷ 0 ∷ []) $ fjoin ! $
+            nothing ! $ move ! (2 ∷ 0 ∷ []) $ join ! $ move ! (2 ∷ 0 ∷ []) $ join ! $ move ! (2 ∷ 0 ∷ []) $ join ! $
+            by ! (ends Listed 𝓤 H A κs qs a W (s .answer) (s .is) (s .zs, (tt, (s .l₃, (s .l₄, (ms, tt)))))
+            (tt, (tt, (tt, (tt, (long, tt)))))
+            (did .0, others-and _ _ _ rest (did .1 .0) (did .1 .1) (h ∙ ap (λ es. written es (xe .now)) entries-are)))
 
     -- ---- the walk
     module _ (C : Calls 𝓤 H) (Λ : Loops 𝓤 H) (fm : FmC 𝓤 H (W .laws) C) (least callee counter filler : Name)
-        (known₀ : Triple 𝓤 (C least) (Least _ 𝓤 H A)) (known₁ : Triple 𝓤 (C callee) (Evaluates L P told sh outcome _ 𝓤 H A))
-        (known₂ : Triple 𝓤 (C counter) (Counts P (λ r. count (told r)) _ 𝓤 H A)) (known₃ : Triple 𝓤 (C filler) (Fills R (L .wide) (L .of) _ 𝓤 H A))
+        (known₀ : Triple 𝓤 (C least) (Keeps Least _ 𝓤 H A)) (known₁ : Triple 𝓤 (C callee) (Keeps (Evaluates L P told sh outcome) _ 𝓤 H A))
+        (known₂ : Triple 𝓤 (C counter) (Keeps (Counts P (λ r. count (told r))) _ 𝓤 H A)) (known₃ : Triple 𝓤 (C filler) (Keeps (Fills R (L .wide) (L .of)) _ 𝓤 H A))
         (fits₁ : Room u64 (length (xs .now))) (fits₃ : Room (R .row) n) where
       module _ (bs : Blocks (locals L P sh)) where
         abbrev En : Env 𝓤 H
@@ -219,18 +204,6 @@ module _ (L : Listing) (P : Plain) {T : Type 0} (told : P .row .Denot → T) (co
               ∷ full (fourth sh .val κ₂ y) ∷ full s₃ ∷ d ∷ full (vint w64 j) ∷ full (P .val (s .answer)) ∷ full (zeros (L .wide))
               ∷ full (vint w64 i) ∷ full u₁ ∷ full u₂ ∷ full u₃ ∷ full u₄ ∷ full u₅ ∷ full u₆ ∷ cs
 
-          abbrev to-fill : ℕ → ℕ → GName → Fills R (L .wide) (L .of) _ 𝓤 H A .Ghost
-          to-fill i ν δ = (
-            (
-              (κ₃, (ν ∷ [], tt)),
-              (q₃, (fullShare, tt)),
-              tt,
-              (xe, (slot (Entry (L .wide)) l δ words, (i, tt))),
-              (s₃ ∷ [], (sliceVal (l, 0) m ∷ [], (vint w64 i ∷ [], tt))),
-            ),
-            tt,
-          )
-
           writes : Sq W (‵ (row (Entry (L .wide)) fullShare words l 0)
               ∷ Gone 𝓤 κ₁ κ₂ q₁ q₂ xs sh x y (s .zs) (s .l₃) (s .l₄)
               ++ ‵ Records ∷ ‵ (flft κ₃ q₃) ∷ cells 𝓤 H En (got empty away n []))
@@ -241,22 +214,28 @@ module _ (L : Listing) (P : Plain) {T : Type 0} (told : P .row .Denot → T) (co
               computes (P ∷ []) word (λ a r. (r ≡ count (told (a .0))) ∷ []) ! fm known₂ (s .answer, tt) (s .is, tt)
               (and-then ! (reads ! 17 refl) (no-more !)) (λ i i-is counted.
               land ! (from ! (stop !)) (store-in ! 18 (held !) (word .typed 𝓤 H A W i _ i-is)) $ move ! (0 ∷ 6 ∷ 7 ∷ []) $
-              -- in the call: [what it asks; the lender's part; what is left of the three; the locals (7)]
-              fills (R .row) (L .wide) m (L .of) xe l words i ! (
+              rewrite ! 29 (λ (c : ℕ). cellAt 𝓤 H En 21 (full (sliceVal (l, 0) c))) (sym (all-long j room-is s)) refl $
+              lends-all (Entry (L .wide)) l ! tt (named 1) words (subst (Room (Entry (L .wide))) (sym (all-long j room-is s)) (L .fits))
+              (λ ν δ.
+              -- [what is lent; its token; the lender's part; the list; its token; what is left of the three; the locals (10)]
+              nothing ! $ has word ! i i-is $ fjoin ! $ move ! (1 ∷ 0 ∷ []) $ fjoin ! $ move ! (3 ∷ 0 ∷ []) $ fjoin ! $
+              nothing ! $ move ! (2 ∷ 0 ∷ []) $ join ! $ move ! (3 ∷ 0 ∷ []) $ join ! $
+              calls (Fills R (L .wide) (L .of)) ! fm known₃ (κ₃, (ν ∷ [], tt)) (q₃, (fullShare, tt))
+              (xe, (slot (Entry (L .wide)) l δ words, (i, tt))) (
                 omega (arith, few j room-is s i counted),
                 rw (all-long j room-is s) (omega (arith, few j room-is s i counted)),
-              ) i-is (all-long j room-is s) (L .fits) fm (Fills R (L .wide) (L .of) _ 𝓤 H A) known₃ (to-fill i) (λ ν δ. id⊢ 𝓤 _)
-              (λ ν δ w. id⊢ 𝓤 _) (λ ν δ. and-then ! (reads ! 26 refl)
-              (and-then ! (reads ! 28 refl) (and-then ! (reads ! 17 refl) (no-more !))))
-              (λ w w-typed ms long h.
+              ) (and-then ! (reads ! 26 refl) (and-then ! (reads ! 28 refl) (and-then ! (reads ! 17 refl) (no-more !))))
+              (λ u zs u-is h. fsplit ! $ fsplit ! $ move ! (1 ∷ []) $ feqL ! (λ long.
+              -- [the list's last list; the rest; the tokens; the lender's part]
+              move ! (1 ∷ []) $ drop ! $ move ! (1 ∷ []) $ split ! $ move ! (1 ∷ []) $ split ! $ move ! (0 ∷ 4 ∷ []) $
+              all-back (Entry (L .wide)) l ! tt words $ move ! (1 ∷ []) $ drop ! $
               -- [the words; the list's token; its last list; what is left of the three; the locals (8)]
-              land ! (from ! (stop !)) (sets ! 25 refl w-typed) $
+              land ! (from ! (stop !)) (sets ! 25 refl (unit .typed 𝓤 H A W u _ u-is)) $
               assigns ! (of-opd ! (reads ! 16 refl)) (from ! (stop !))
               (sets ! 8 refl (P .typed 𝓤 H A W (s .answer) _ (s .is))) $
               use1 W (‵ (froom (tyArray (tyArray (tyInt w64) (L .wide)) m) l 0))
               (row-room 𝓤 H A W (Entry (L .wide)) m l words (all-long j room-is s)) $ puts ! 13 _ refl $
-              leaves ! 7 (got (full (P .val (s .answer))) empty i (full w ∷ full (vptr (xe .ptr .0) (xe .ptr .1)) ∷ full s₃
-              ∷ full (vptr l 0) ∷ full (sliceVal (l, 0) m) ∷ [])) refl tt refl $ by ! (exits j room-is s i counted ms long h)))
+              leaves ! 7 (got (full (P .val (s .answer))) empty i (full _ ∷ full _ ∷ full _ ∷ full _ ∷ full _ ∷ [])) refl tt refl $ by ! (exits j room-is s i counted (zs .0) long h)))))
 
         begins : Is (third sh .row κ₂) x (third sh .val κ₂ x ∷ []) → Is (fourth sh .row κ₂) y (fourth sh .val κ₂ y ∷ [])
             → Sq W (Owned 𝓤 κ₁ κ₂ q₁ q₂ xs sh x y ++ ‵ Records ∷ ‵ (flft κ₃ q₃)
@@ -280,17 +259,14 @@ module _ (L : Listing) (P : Plain) {T : Type 0} (told : P .row .Denot → T) (co
             outcome x y bs x-is y-is known₁ (writes j room-is)))
 
       walk : Is (third sh .row κ₂) x (third sh .val κ₂ x ∷ []) → Is (fourth sh .row κ₂) y (fourth sh .val κ₂ y ∷ [])
-          → ent 𝓤 (walkOf 𝓤 H A signed (stays 3 Ps) (clauses 𝓤) .pre y₀)
-          (WpFn 𝓤 H C Λ (code least callee counter filler) args Post)
+          → Sq W ((‵ (flft κ₁ q₁) ⊛ ‵ (flft κ₂ q₂) ⊛ ‵ (flft κ₃ q₃) ⊛ ‵ ftrue) ∷ ‵ (contracts.Owned Listed κs a) ∷ [])
+          (prop (WpFn 𝓤 H C Λ (code least callee counter filler) args Post))
       walk x-is y-is =
-          qed W (((‵ (flft κ₁ q₁) ⊛ ‵ (flft κ₂ q₂) ⊛ ‵ (flft κ₃ q₃) ⊛ ‵ ftrue)
-          ⊛ ‵ (owns (MutSlice (named 0) κ₁ u64 ∷ SettingsOf .row ∷ third sh .row κ₂ ∷ fourth sh .row κ₂
-          ∷ MutSlice (named 2) κ₃ (R .row) ∷ []) (y₀ .0 .3) (y₀ .0 .4))) ∷ ‵ ftrue ∷ []) ∵
-          split ! $ split ! $ move ! (1 ∷ []) $ split ! $ move ! (1 ∷ []) $ split ! $
-          -- [the list's token; true; the second; the store's; what the parameters own; true]
+          split ! $ move ! (1 ∷ []) $ split ! $ move ! (1 ∷ []) $ split ! $
+          -- [the list's token; true; the second; the store's; what the parameters own]
           move ! (4 ∷ []) $ fsplit ! $ move ! (1 ∷ []) $ fsplit ! $ drop ! $ fsplit ! $ move ! (1 ∷ []) $ fsplit ! $ move !
           (1 ∷ []) $ fsplit ! $
-          -- [the list; true; the two; the store; the list's token; true; the second; the store's; true]
+          -- [the list; true; the two; the store; the list's token; true; the second; the store's]
           keep ! (4 ∷ 8 ∷ 3 ∷ 2 ∷ 7 ∷ 0 ∷ 5 ∷ []) $
           enters ! C Λ (code least callee counter filler) args (
             (tt, (tt, (record { fits = fits₁ .0 }, tt))),
@@ -315,10 +291,10 @@ module _ (L : Listing) (P : Plain) {T : Type 0} (told : P .row .Denot → T) (co
         → Closed 𝓤 H (tables 𝓤 H 𝓜 𝓡 γ .C) (tables 𝓤 H 𝓜 𝓡 γ .Λ) name whole
         → γ (least .name) ≡ least .routine → γ (callee .name) ≡ callee .routine → γ (counter .name) ≡ counter .routine
         → γ (filler .name) ≡ filler .routine
-        → Meets 𝓤 H (𝓖 .A) (signed .signature) (𝓡 .run (γ name)) (closing 𝓤 H (𝓖 .A) signed (clauses 𝓤))
+        → Triple 𝓤 (𝓡 .run (γ name)) (Keeps Listed M 𝓤 H (𝓖 .A))
     proved 𝓤 H 𝓜 𝓖 𝓡 γ name closed e₀ e₁ e₂ e₃ =
         let W : Given 𝓤 H (𝓖 .A) = givenOf 𝓤 H 𝓜 𝓖 in
-        params.proved 3 Ps (plain (λ κs. P .row)) 𝓤 H 𝓜 𝓖 𝓡 (clauses 𝓤) whole γ name closed (λ 𝓣 known κs qs bounds a g are.
+        contracts.proved Listed 𝓤 H 𝓜 𝓖 𝓡 whole γ name closed (λ 𝓣 known κs qs a are ok.
         walk 𝓤 H (𝓖 .A) W (κs .0) (κs .1 .0) (κs .1 .1 .0) (qs .0) (qs .1 .0) (qs .1 .1 .0) (a .0) (a .1 .0) (a .1 .1 .0)
         (a .1 .1 .1 .0) (a .1 .1 .1 .1 .0) (are .1 .0)
         (lists (κs .1 .0) (a .1 .0) (a .1 .1 .0) (a .1 .1 .1 .0) (a .0 .now)) (𝓣 .C) (𝓣 .Λ) (fmOf 𝓤 H (W .laws) 𝓣)

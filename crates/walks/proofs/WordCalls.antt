@@ -1,33 +1,36 @@
 -- An evaluation that takes words in the place of a list of records: of a store, settings, two parameters that are handed
 -- on to it, and the words. Its contract, and its call by a function that lends it the first entries of a local array and
 -- hands on what it was itself lent.
-use mathlib.Core.Path.{_≡_, refl, _∙_}
-use Prim.Native.Nat.{ℕ, suc, _≤_, min}
+use mathlib.Core.Path.{_≡_, refl, sym, _∙_}
+use Prim.Native.Nat.{ℕ, suc, _≤_, _<_, _^_, min}
 use native.Mathlib.Omega.{arith}
 use mathlib.Core.List.{[], _∷_, _++_, List, map}
 use lib.ListN.{length, take, drop as without, length-take}
 use mir.Syntax.{place}
+use contract.Lifetimes.{Lfts, Shares}
+use denote.Triple.End.{Outs}
 use Rattle.walks.proofs.WalkSteps.{URA, fullShare, Name, Ty, Local, Place, Body, Opd as Operand, named, erased}
 use Rattle.walks.proofs.WalkSteps.{mut, imm, w64, tyInt, tyUnit, tyRef, tyArray, local, valueLocal, memorySlot}
-use Rattle.walks.proofs.WalkSteps.{field, deref, copy, addrOf, aggregate, assign, seq, call, Val, vint, id⊢}
-use Rattle.walks.proofs.WalkSteps.{emp, Lft, Share, GName, ftrue, flft, Heap, Env, Calls, Loops, Atoms, Given}
-use Rattle.walks.proofs.WalkSteps.{Item, Post, Go, Sq, runs, lands, ‵, raw, _⊛_, _$_, !, move, drop, use1}
-use Rattle.walks.proofs.WalkSteps.{split, join, fsplit, fjoin, feqL, Opds, and-then, no-more, land, from, stop}
-use Rattle.walks.proofs.WalkSteps.{FmC, RattleType, pointee, Is, Tells, u64, RefT, sliceTy, sliceVal, MutSlice}
-use Rattle.walks.proofs.WalkSteps.{ShrSlice, Room, mut-slice-tells, shr-slice-tells, row, yes, Seen, Last}
-use Rattle.walks.proofs.WalkSteps.{left, see, Slot, plain, mutSliceOf, nothing, tripleOf, Triple, calls-at}
-use Rattle.walks.proofs.WalkSteps.{Ended, Clauses, closing, lasts}
+use Rattle.walks.proofs.WalkSteps.{field, deref, copy, addrOf, aggregate, assign, seq, call, Val, vint, Lft}
+use Rattle.walks.proofs.WalkSteps.{Share, GName, flft, Heap, Env, Calls, Loops, Atoms, Given, Item, Post, Go}
+use Rattle.walks.proofs.WalkSteps.{Sq, runs, lands, ‵, raw, _$_, !, move, drop, split, join, fsplit, fjoin}
+use Rattle.walks.proofs.WalkSteps.{feqL, Opds, and-then, no-more, land, from, stop, FmC, RattleType, pointee}
+use Rattle.walks.proofs.WalkSteps.{Is, Tells, u64, RefT, sliceTy, sliceVal, MutSlice, ShrSlice, Room}
+use Rattle.walks.proofs.WalkSteps.{mut-slice-tells, shr-slice-tells, row, yes, Seen, Last, left, see, plain}
+use Rattle.walks.proofs.WalkSteps.{mutSliceOf, nothing, Triple, exit, rewrite, now, Denots, flat, slice-vals}
+use Rattle.walks.proofs.WalkSteps.{typesAt}
 use Rattle.book.specs.Calls.{written}
 use Rattle.book.specs.declared.Settings.{Settings}
 use Rattle.walks.proofs.Buffers.{Entry, slot, Kept, blank, blank-length, room-below, lends-part, part-back}
-use Rattle.walks.proofs.Cells.{Typed, Blocks, envOf, cells, reads, sets}
-use Rattle.walks.proofs.Claims.{All, claims}
+use Rattle.walks.proofs.Cells.{Typed, Blocks, envOf, cells, cellAt, reads, sets}
+use Rattle.walks.proofs.Claims.{All}
 use Rattle.walks.proofs.Constants.{Most}
+use Rattle.walks.proofs.Contracts.{Form, Keeps, Asked, rows, spelt, calls}
 use Rattle.walks.proofs.Frame.{Cell, room as empty, full, away}
-use Rattle.walks.proofs.Known.{Promise}
-use Rattle.walks.proofs.Lending.{relends, points, lands-as}
-use Rattle.walks.proofs.Lent.{has, answers}
-use Rattle.walks.proofs.Plain.{Plain, Stands, stands}
+use Rattle.walks.proofs.Lending.{relends, points}
+use Rattle.walks.proofs.Lent.{has}
+use Rattle.walks.proofs.Params.{Param, value, handed, lent, slots, kepts}
+use Rattle.walks.proofs.Plain.{Plain, Stands}
 use Rattle.walks.proofs.Types.{SettingsOf}
 
 -- a list of records, each written as words: their type, how many words an entry has and how many entries there are at
@@ -128,14 +131,15 @@ abbrev pub Rest : (sh : Shape) (κ : Lft) → fourth sh .row κ .Denot → Seen 
 Rest (single t X) κ y z os = []
 Rest (paired X S σ) κ y z os = (z .now ≡ written os (y .now)) ∷ []
 
-abbrev pub slotOf : Handed → Slot 3
-slotOf X = plain (λ κs. X .row (κs .1 .0))
+-- the parameters up to the list: store and settings, and the two
+abbrev at-second : Handed → Param 3
+at-second X = handed 3 (plain (λ κs. X .row (κs .1 .0))) (λ κs d. X .val (κs .1 .0) d ∷ []) (λ κs. X .tells (κs .1 .0))
 
-abbrev pub store : Slot 3
-store = mutSliceOf (0 ∷ []) tt (plain (λ κs. u64))
+abbrev store : Param 3
+store = handed 3 (mutSliceOf (0 ∷ []) tt (plain (λ κs. u64))) (λ κs. slice-vals) (λ κs. mut-slice-tells (named 0) (κs .0) u64)
 
-abbrev pub set : Slot 3
-set = plain (λ κs. SettingsOf .row)
+abbrev pub with-list : Shape → Param 3 → List (Param 3)
+with-list sh list = store ∷ value 3 SettingsOf ∷ at-second (third sh) ∷ at-second (fourth sh) ∷ list ∷ []
 
 -- ---- the code: a slice is lent again, the first entries of an array are lent, and the evaluation is called
 abbrev pub again : ℕ → ℕ → Ty → Body → Body
@@ -238,47 +242,27 @@ module _ (L : Listing) (P : Plain) {T : Type 0} (told : P .row .Denot → T) whe
       ∷ (ws ≡ written (map (L .words) (o .entries)) before) ∷ Rest sh κ y z (o .others)
 
   -- it takes the words last, or before the other list
-  abbrev calling : Shape → Ended
-  calling (single t X) = record {
-    signature = record {
-      lifetimes = 3;
-      outlives = [];
-      params = store ∷ set ∷ slotOf (third (single t X)) ∷ slotOf (fourth (single t X))
-          ∷ mutSliceOf (2 ∷ []) tt (plain (λ κs. Entry (L .wide))) ∷ [];
-      result = plain (λ κs. P .row);
-    };
-    kept = (yes, (yes, (yes, (yes, (yes, tt)))));
-  }
-  calling (paired X S σ) = record {
-    signature = record {
-      lifetimes = 3;
-      outlives = [];
-      params = store ∷ set ∷ plain (λ κs. X .row) ∷ mutSliceOf (1 ∷ []) tt (plain (λ κs. Entry (L .wide)))
-          ∷ mutSliceOf (2 ∷ []) tt (plain (λ κs. S)) ∷ [];
-      result = plain (λ κs. P .row);
-    };
-    kept = (yes, (yes, (yes, (yes, (yes, tt)))));
-  }
+  abbrev taken : Shape → List (Param 3)
+  taken (single t X) = with-list (single t X) (lent 3 2 tt (Entry (L .wide)))
+  taken (paired X S σ) = store ∷ value 3 SettingsOf ∷ value 3 X ∷ lent 3 1 tt (Entry (L .wide)) ∷ lent 3 2 tt S ∷ []
 
-  abbrev called : {M : Type 1} (𝓤 : URA M) (sh : Shape) → Outcomes sh → Clauses 𝓤 (calling sh)
-  called 𝓤 (single t X) outcome κs a = record {
-    ghost = Unit {0};
-    requires = λ _. emp 𝓤;
-    ensures = λ _ r e. claims 𝓤 (Did (single t X) (κs .1 .0) (a .1 .1 .1 .0) (a .1 .1 .1 .1 .0 .now)
-        (outcome (κs .1 .0) (a .1 .0) (a .1 .1 .0) (a .1 .1 .1 .0) (a .0 .now) (length (a .1 .1 .1 .1 .0 .now)))
-        r (e .0 .now) (e .1 .1 .1 .0) (e .1 .1 .1 .1 .0 .now));
-  }
-  called 𝓤 (paired X S σ) outcome κs a = record {
-    ghost = Unit {0};
-    requires = λ _. emp 𝓤;
-    ensures = λ _ r e. claims 𝓤 (Did (paired X S σ) (κs .1 .1 .0) (a .1 .1 .1 .1 .0) (a .1 .1 .1 .0 .now)
-        (outcome (κs .1 .1 .0) (a .1 .0) (a .1 .1 .0) (a .1 .1 .1 .1 .0) (a .0 .now) (length (a .1 .1 .1 .0 .now)))
-        r (e .0 .now) (e .1 .1 .1 .1 .0) (e .1 .1 .1 .0 .now));
-  }
+  abbrev tells : (sh : Shape) → Outcomes sh → (κs : Lfts 3) → Denots (typesAt (slots 3 (taken sh)) κs) → P .row .Denot
+      → Outs κs (slots 3 (taken sh)) (kepts 3 (taken sh)) → List (Type 0)
+  tells (single t X) outcome κs a r e = Did (single t X) (κs .1 .0) (a .1 .1 .1 .0) (a .1 .1 .1 .1 .0 .now)
+      (outcome (κs .1 .0) (a .1 .0) (a .1 .1 .0) (a .1 .1 .1 .0) (a .0 .now) (length (a .1 .1 .1 .1 .0 .now)))
+      r (e .0 .now) (e .1 .1 .1 .0) (e .1 .1 .1 .1 .0 .now)
+  tells (paired X S σ) outcome κs a r e = Did (paired X S σ) (κs .1 .1 .0) (a .1 .1 .1 .1 .0) (a .1 .1 .1 .0 .now)
+      (outcome (κs .1 .1 .0) (a .1 .0) (a .1 .1 .0) (a .1 .1 .1 .1 .0) (a .0 .now) (length (a .1 .1 .1 .0 .now)))
+      r (e .0 .now) (e .1 .1 .1 .1 .0) (e .1 .1 .1 .0 .now)
 
-  abbrev pub Evaluates : (sh : Shape) → Outcomes sh → Promise
-  Evaluates sh outcome M 𝓤 H A =
-      tripleOf 𝓤 H A (calling sh .signature) (closing 𝓤 H A (calling sh) (called 𝓤 sh outcome))
+  abbrev pub Evaluates : (sh : Shape) → Outcomes sh → Form
+  Evaluates sh outcome = record {
+    lifetimes = 3;
+    params = taken sh;
+    result = P;
+    asks = λ κs a. [];
+    tells = tells sh outcome;
+  }
 
   -- ---- the call, which is lent the first j entries of an array of zeros
   -- what it answers, and the last of the store, of the two and of the words
@@ -300,121 +284,89 @@ module _ (L : Listing) (P : Plain) {T : Type 0} (told : P .row .Denot → T) whe
     long : length (take j (blanks L)) ≡ j
     long = length-take j (blanks L) ∙ omega (arith, few, blank-length (L .wide) (L .most .most))
 
-    fits : Room (Entry (L .wide)) j
-    fits = room-below (Entry (L .wide)) j (L .most .most) few (L .fits)
+    fits : Room (Entry (L .wide)) (length (take j (blanks L)))
+    fits = room-below (Entry (L .wide)) _ (L .most .most) (omega (arith, long, few)) (L .fits)
+
+    j-fits : j < 2 ^ 64
+    j-fits = omega (arith, few, L .fits .0)
 
     -- the machine value of the store
     abbrev s₁ : Val
     s₁ = sliceVal (xs .ptr) (length (xs .now))
 
-    -- its arguments, at a lifetime ν of the words
-    abbrev with : (sh : Shape) (outcome : Outcomes sh) (x : third sh .row κ₂ .Denot) (y : fourth sh .row κ₂ .Denot)
-        → ℕ → ℕ → GName → Evaluates sh outcome _ 𝓤 H A .Ghost
-    with (single t X) outcome x y l ν δ = (
-      (
-        (κ₁, (κ₂, (ν ∷ [], tt))),
-        (q₁, (q₂, (fullShare, tt))),
-        tt,
-        (xs, (settings, (x, (y, (slot (Entry (L .wide)) l δ (take j (blanks L)), tt))))),
-        (
-          s₁ ∷ [],
-          (
-            SettingsOf .val settings ∷ [],
-            (third (single t X) .val κ₂ x ∷ [], (fourth (single t X) .val κ₂ y ∷ [], (sliceVal (l, 0) j ∷ [], tt))),
-          ),
-        ),
-      ),
-      tt,
-    )
-    with (paired X S σ) outcome x y l ν δ = (
-      (
-        (κ₁, (ν ∷ [], (κ₂, tt))),
-        (q₁, (fullShare, (q₂, tt))),
-        tt,
-        (xs, (settings, (x, (slot (Entry (L .wide)) l δ (take j (blanks L)), (y, tt))))),
-        (
-          s₁ ∷ [],
-          (
-            SettingsOf .val settings ∷ [],
-            (X .val x ∷ [], (sliceVal (l, 0) j ∷ [], (sliceVal (y .ptr) (length (y .now)) ∷ [], tt))),
-          ),
-        ),
-      ),
-      tt,
-    )
+    -- its lifetimes, shares and arguments, with words at l lent for ν
+    abbrev for : Shape → ℕ → Lfts 3
+    for (single t X) ν = (κ₁, (κ₂, (ν ∷ [], tt)))
+    for (paired X S σ) ν = (κ₁, (ν ∷ [], (κ₂, tt)))
+
+    abbrev sharing : Shape → Shares 3
+    sharing (single t X) = (q₁, (q₂, (fullShare, tt)))
+    sharing (paired X S σ) = (q₁, (fullShare, (q₂, tt)))
+
+    abbrev on : (sh : Shape) (outcome : Outcomes sh) (x : third sh .row κ₂ .Denot) (y : fourth sh .row κ₂ .Denot) (l ν : ℕ)
+        → GName → Denots (rows (Evaluates sh outcome) (for sh ν))
+    on (single t X) outcome x y l ν δ = (xs, (settings, (x, (y, (slot (Entry (L .wide)) l δ (take j (blanks L)), tt)))))
+    on (paired X S σ) outcome x y l ν δ = (xs, (settings, (x, (slot (Entry (L .wide)) l δ (take j (blanks L)), (y, tt)))))
 
     module _ (C : Calls 𝓤 H) (Λ : Loops 𝓤 H) (fm : FmC 𝓤 H (W .laws) C) (callee : Name) (b : Body) (q : Post 𝓤 H) where
       is-called : (sh : Shape) (outcome : Outcomes sh) (x : third sh .row κ₂ .Denot) (y : fourth sh .row κ₂ .Denot) (l : ℕ)
           (E : Env 𝓤 H) (ops : List Operand) (d : Place) (Γ : List (Item 𝓤))
-          → Triple 𝓤 (C callee) (Evaluates sh outcome _ 𝓤 H A)
-          → ((ν : ℕ) (δ : GName) → Opds (Go {0}) W (raw (Evaluates sh outcome _ 𝓤 H A .pre (with sh outcome x y l ν δ))
+          → Triple 𝓤 (C callee) (Keeps (Evaluates sh outcome) _ 𝓤 H A)
+          → ((ν : ℕ) (δ : GName) → Opds (Go {0}) W
+          (raw (Asked (Evaluates sh outcome) 𝓤 H A (for sh ν) (sharing sh) (on sh outcome x y l ν δ))
           ∷ ‵ (Kept (Entry (L .wide)) l j (blanks L) ν δ) ∷ Γ) E ops
-          (Evaluates sh outcome _ 𝓤 H A .args (with sh outcome x y l ν δ)))
+          (flat (rows (Evaluates sh outcome) (for sh ν)) (spelt (Evaluates sh outcome) (for sh ν) (on sh outcome x y l ν δ))))
           → ((s : Said κ₂ settings (xs .now) j sh outcome x y)
           → Sq W (‵ (row (Entry (L .wide)) fullShare (s .ws ++ without j (blanks L)) l 0)
           ∷ Gone 𝓤 κ₁ κ₂ q₁ q₂ xs sh x y (s .zs) (s .l₃) (s .l₄) ++ Γ) (lands C Λ E d (P .val (s .answer)) b q))
           → Sq W (‵ (row (Entry (L .wide)) fullShare (blanks L) l 0) ∷ Owned 𝓤 κ₁ κ₂ q₁ q₂ xs sh x y ++ Γ)
           (runs C Λ E (seq (call callee ops d) b) q)
       is-called (single t X) outcome x y l E ops d Γ known opds go =
-          lends-part (Entry (L .wide)) l ! tt (named 2) j (blanks L) long fits (λ ν δ.
+          lends-part (Entry (L .wide)) l ! tt (named 2) j (blanks L) fits (λ ν δ.
           -- [what is lent; its token; what is kept; the store; its token; the two; their token; …]
           nothing ! $ move ! (1 ∷ 0 ∷ []) $ fjoin ! $ move ! (6 ∷ 0 ∷ []) $ fjoin ! $ move ! (5 ∷ 0 ∷ []) $ fjoin ! $
           has SettingsOf ! settings settings-is $ fjoin ! $ move ! (3 ∷ 0 ∷ []) $ fjoin ! $
           -- [what the arguments own; the words' token; what is kept; the store's token; the second; …]
           nothing ! $ move ! (2 ∷ 0 ∷ []) $ join ! $ move ! (4 ∷ 0 ∷ []) $ join ! $ move ! (3 ∷ 0 ∷ []) $ join ! $
-          join ! $ nothing ! $ move ! (1 ∷ 0 ∷ []) $ join ! $
-          use1 W (raw (Evaluates (single t X) outcome _ 𝓤 H A .pre (with (single t X) outcome x y l ν δ))) (id⊢ 𝓤 _) $
-          calls-at ! fm (Evaluates (single t X) outcome _ 𝓤 H A) known (with (single t X) outcome x y l ν δ) (opds ν δ)
-          (λ w. answers P ! tt (‵ (flft κ₁ q₁) ⊛ ‵ (flft κ₂ q₂) ⊛ ‵ (flft (ν ∷ []) fullShare) ⊛ ‵ ftrue)
-          (lasts (calling (single t X)) (κ₁, (κ₂, (ν ∷ [], tt))) (with (single t X) outcome x y l ν δ .0 .3))
-          (λ r zs. Did (single t X) κ₂ y (take j (blanks L))
-          (outcome κ₂ settings x y (xs .now) (length (take j (blanks L)))) r
-          (zs .0) (see (fourth (single t X) .row κ₂ .exit yes) y (zs .1 .1 .1 .0)) (zs .1 .1 .1 .1 .0)) w (id⊢ 𝓤 _)
-          (λ r zs is e.
+          calls (Evaluates (single t X) outcome) ! fm known (for (single t X) ν) (sharing (single t X))
+          (on (single t X) outcome x y l ν δ) tt (opds ν δ) (λ r zs is e.
           fsplit ! $ move ! (1 ∷ []) $ fsplit ! $ drop ! $ fsplit ! $ move ! (1 ∷ []) $ fsplit ! $ move ! (1 ∷ []) $
           fsplit ! $ fsplit ! $ move ! (1 ∷ []) $ feqL ! (λ as-long. move ! (1 ∷ []) $ drop ! $
           -- [the words' last; of the fourth, the third, the store; the tokens; what is kept; …]
           move ! (4 ∷ []) $ split ! $ move ! (1 ∷ []) $ split ! $ move ! (1 ∷ []) $ split ! $ move ! (4 ∷ 0 ∷ 8 ∷ []) $
           part-back (Entry (L .wide)) l ! tt j (blanks L) (zs .1 .1 .1 .1 .0) (as-long ∙ long) $ move ! (1 ∷ []) $ drop ! $
-          lands-as P ! r w is $ go (record {
+          go (record {
             answer = r;
-            is = stands P r w is;
+            is = is;
             zs = zs .0;
             l₃ = zs .1 .1 .0;
             l₄ = zs .1 .1 .1 .0;
             ws = zs .1 .1 .1 .1 .0;
             as-long = as-long;
             did = e;
-          })))))
+          }))))
       is-called (paired X S σ) outcome x y l E ops d Γ known opds go =
-          lends-part (Entry (L .wide)) l ! tt (named 1) j (blanks L) long fits (λ ν δ.
+          lends-part (Entry (L .wide)) l ! tt (named 1) j (blanks L) fits (λ ν δ.
           nothing ! $ move ! (7 ∷ 0 ∷ []) $ fjoin ! $ move ! (1 ∷ 0 ∷ []) $ fjoin ! $ move ! (5 ∷ 0 ∷ []) $ fjoin ! $
           has SettingsOf ! settings settings-is $ fjoin ! $ move ! (3 ∷ 0 ∷ []) $ fjoin ! $
           nothing ! $ move ! (5 ∷ 0 ∷ []) $ join ! $ move ! (2 ∷ 0 ∷ []) $ join ! $ move ! (3 ∷ 0 ∷ []) $ join ! $
-          join ! $ nothing ! $ move ! (1 ∷ 0 ∷ []) $ join ! $
-          use1 W (raw (Evaluates (paired X S σ) outcome _ 𝓤 H A .pre (with (paired X S σ) outcome x y l ν δ))) (id⊢ 𝓤 _) $
-          calls-at ! fm (Evaluates (paired X S σ) outcome _ 𝓤 H A) known (with (paired X S σ) outcome x y l ν δ) (opds ν δ)
-          (λ w. answers P ! tt (‵ (flft κ₁ q₁) ⊛ ‵ (flft (ν ∷ []) fullShare) ⊛ ‵ (flft κ₂ q₂) ⊛ ‵ ftrue)
-          (lasts (calling (paired X S σ)) (κ₁, (ν ∷ [], (κ₂, tt))) (with (paired X S σ) outcome x y l ν δ .0 .3))
-          (λ r zs. Did (paired X S σ) κ₂ y (take j (blanks L))
-          (outcome κ₂ settings x y (xs .now) (length (take j (blanks L)))) r
-          (zs .0) (see (MutSlice (named 1) κ₂ S .exit yes) y (zs .1 .1 .1 .1 .0)) (zs .1 .1 .1 .0)) w (id⊢ 𝓤 _)
-          (λ r zs is e.
+          calls (Evaluates (paired X S σ) outcome) ! fm known (for (paired X S σ) ν) (sharing (paired X S σ))
+          (on (paired X S σ) outcome x y l ν δ) tt (opds ν δ) (λ r zs is e.
           fsplit ! $ move ! (1 ∷ []) $ fsplit ! $ drop ! $ fsplit ! $ move ! (1 ∷ []) $ fsplit ! $
           fsplit ! $ move ! (1 ∷ []) $ feqL ! (λ as-long. move ! (1 ∷ []) $ fsplit ! $ move ! (1 ∷ []) $ drop ! $
           -- [the fourth's last; the words'; of the third, the store; the tokens; what is kept; …]
           move ! (4 ∷ []) $ split ! $ move ! (1 ∷ []) $ split ! $ move ! (1 ∷ []) $ split ! $ move ! (5 ∷ 2 ∷ 8 ∷ []) $
           part-back (Entry (L .wide)) l ! tt j (blanks L) (zs .1 .1 .1 .0) (as-long ∙ long) $ move ! (2 ∷ []) $ drop ! $
-          lands-as P ! r w is $ go (record {
+          go (record {
             answer = r;
-            is = stands P r w is;
+            is = is;
             zs = zs .0;
             l₃ = zs .1 .1 .0;
             l₄ = zs .1 .1 .1 .1 .0;
             ws = zs .1 .1 .1 .0;
             as-long = as-long;
             did = e;
-          })))))
+          }))))
 
       -- the statements before it, too; v₅ is the list, v₉ and v₁₀ are what other locals hold, i₁ and i₂ what else is had
       module _ (fits₁ : Room u64 (length (xs .now))) (i₁ i₂ : Item 𝓤) (v₅ v₉ v₁₀ : Val) where
@@ -425,10 +377,14 @@ module _ (L : Listing) (P : Plain) {T : Type 0} (told : P .row .Denot → T) whe
             ∷ full (third sh .val κ₂ x) ∷ full (fourth sh .val κ₂ y) ∷ full v₅ ∷ away ∷ full (vint w64 j) ∷ c ∷ full v₉
             ∷ full v₁₀ ∷ cs)
 
+        -- the local that holds the words' slice
+        abbrev lent-at : (sh : Shape) → Blocks (locals L P sh) → ℕ → ℕ → Item 𝓤
+        lent-at sh bs i c = cellAt 𝓤 H (envOf (locals L P sh) bs) i (full (sliceVal (block L P sh bs, 0) c))
+
         pub evaluates : (sh : Shape) (outcome : Outcomes sh) (x : third sh .row κ₂ .Denot) (y : fourth sh .row κ₂ .Denot)
             (bs : Blocks (locals L P sh))
             → Is (third sh .row κ₂) x (third sh .val κ₂ x ∷ []) → Is (fourth sh .row κ₂) y (fourth sh .val κ₂ y ∷ [])
-            → Triple 𝓤 (C callee) (Evaluates sh outcome _ 𝓤 H A)
+            → Triple 𝓤 (C callee) (Keeps (Evaluates sh outcome) _ 𝓤 H A)
             → ((s : Said κ₂ settings (xs .now) j sh outcome x y) (u₁ u₂ u₃ u₄ u₅ u₆ : Val)
             → Sq W (‵ (row (Entry (L .wide)) fullShare (s .ws ++ without j (blanks L)) (block L P sh bs) 0)
             ∷ Gone 𝓤 κ₁ κ₂ q₁ q₂ xs sh x y (s .zs) (s .l₃) (s .l₄) ++ before sh x y bs (full (P .val (s .answer)))
@@ -440,7 +396,8 @@ module _ (L : Listing) (P : Plain) {T : Type 0} (told : P .row .Denot → T) whe
         evaluates (single first X) outcome x y bs x-is y-is known go =
             relends ! 8 1 11 refl refl refl (tt, tt) refl refl refl (tt, (tt, (record { fits = fits₁ .0 }, tt))) $
             relends ! 8 4 13 refl refl refl (tt, tt) refl refl refl (tt, (tt, (record { fits = y-is .0 .1 .0 }, tt))) $
-            points ! 8 6 15 refl (tt, tt) refl (reads ! 15 refl) refl (tt, (tt, (record { fits = fits .0 }, tt))) $
+            points ! 8 6 15 refl (tt, tt) refl (reads ! 15 refl) refl (tt, (tt, (record { fits = j-fits }, tt))) $
+            rewrite ! 24 (lent-at (single first X) bs 16) (sym long) refl $
             is-called (single first X) outcome x y _ _ _ _ _ known (λ ν δ. and-then ! (reads ! 16 refl)
             (and-then ! (reads ! 6 refl) (and-then ! (reads ! 7 refl)
             (and-then ! (reads ! 18 refl) (and-then ! (reads ! 20 refl) (no-more !)))))) (λ s.
@@ -448,14 +405,16 @@ module _ (L : Listing) (P : Plain) {T : Type 0} (told : P .row .Denot → T) whe
         evaluates (single second X) outcome x y bs x-is y-is known go =
             relends ! 8 1 11 refl refl refl (tt, tt) refl refl refl (tt, (tt, (record { fits = fits₁ .0 }, tt))) $
             relends ! 8 3 13 refl refl refl (tt, tt) refl refl refl (tt, (tt, (record { fits = x-is .0 .1 .0 }, tt))) $
-            points ! 8 6 15 refl (tt, tt) refl (reads ! 15 refl) refl (tt, (tt, (record { fits = fits .0 }, tt))) $
+            points ! 8 6 15 refl (tt, tt) refl (reads ! 15 refl) refl (tt, (tt, (record { fits = j-fits }, tt))) $
+            rewrite ! 24 (lent-at (single second X) bs 16) (sym long) refl $
             is-called (single second X) outcome x y _ _ _ _ _ known (λ ν δ. and-then ! (reads ! 16 refl)
             (and-then ! (reads ! 6 refl) (and-then ! (reads ! 18 refl)
             (and-then ! (reads ! 8 refl) (and-then ! (reads ! 20 refl) (no-more !)))))) (λ s.
             land ! (from ! (stop !)) (sets ! 16 refl (P .typed 𝓤 H A W (s .answer) _ (s .is))) $ go s _ _ _ _ _ _)
         evaluates (paired X S σ) outcome x y bs x-is y-is known go =
             relends ! 8 1 11 refl refl refl (tt, tt) refl refl refl (tt, (tt, (record { fits = fits₁ .0 }, tt))) $
-            points ! 8 6 13 refl (tt, tt) refl (reads ! 15 refl) refl (tt, (tt, (record { fits = fits .0 }, tt))) $
+            points ! 8 6 13 refl (tt, tt) refl (reads ! 15 refl) refl (tt, (tt, (record { fits = j-fits }, tt))) $
+            rewrite ! 22 (lent-at (paired X S σ) bs 14) (sym long) refl $
             relends ! 8 4 15 refl refl refl (tt, tt) refl refl refl (tt, (tt, (record { fits = y-is .0 .1 .0 }, tt))) $
             is-called (paired X S σ) outcome x y _ _ _ _ _ known (λ ν δ. and-then ! (reads ! 16 refl)
             (and-then ! (reads ! 6 refl) (and-then ! (reads ! 7 refl)

@@ -1,7 +1,7 @@
 -- The functions of this crate as a caller's proof cites them.
 use Rattle.book.specs.Answers.{toldCounts, toldPass}
 use Rattle.evaluation.specs.Counts.{electedCount, movedCount, passCount}
-use Rattle.walks.proofs.Known.{Known}
+use Rattle.walks.proofs.Contracts.{Known}
 use Rattle.walks.proofs.ListCalls.{Least, Counts}
 use Rattle.walks.proofs.Types.{EvaluatedOf, PassedOf}
 use Rattle.word_rooms.proofs.least.Symbol as least-def

@@ -14,7 +14,7 @@ use Rattle.book.specs.declared.PrintSegment.{PrintSegment}
 use Rattle.book.specs.declared.Settings.{Settings}
 use Rattle.evaluation.specs.Counts.{passCount}
 use Rattle.evaluation.proofs.Rooms.{pass-lists, pass-cut}
-use Rattle.walks.proofs.Known.{Known}
+use Rattle.walks.proofs.Contracts.{Known}
 use Rattle.walks.proofs.ListCalls.{proved}
 use Rattle.walks.proofs.Types.{PrintsOf, PassedOf}
 use Rattle.walks.proofs.WordCalls.{Left, Shape, single, second, Evaluates, Lists}

@@ -12,7 +12,7 @@ use Rattle.lent_run.specs.Runs.{toldRun}
 use Rattle.lent_run.specs.declared.Start.{Start}
 use Rattle.lent_run.proofs.Outcome.{runTo, runCount, run-lists}
 use Rattle.lent_run.proofs.Types.{StartOf, StopRunOf}
-use Rattle.walks.proofs.Known.{Known}
+use Rattle.walks.proofs.Contracts.{Known}
 use Rattle.walks.proofs.ListCalls.{Counts, proved}
 use Rattle.walks.proofs.WordCalls.{Left, Shape, single, second, Evaluates}
 use Rattle.word_rooms.proofs.Callees.{least}

@@ -13,7 +13,7 @@ use Rattle.book.specs.declared.Moved.{Moved}
 use Rattle.book.specs.declared.PrintSegment.{PrintSegment}
 use Rattle.book.specs.declared.Settings.{Settings}
 use Rattle.evaluation.specs.Counts.{movedCount}
-use Rattle.walks.proofs.Known.{Known}
+use Rattle.walks.proofs.Contracts.{Known}
 use Rattle.walks.proofs.ListCalls.{proved}
 use Rattle.walks.proofs.Types.{PrintsOf, ElectedOf, EvaluatedOf}
 use Rattle.walks.proofs.WordCalls.{Left, Shape, paired, Evaluates}

@@ -15,7 +15,7 @@ use Rattle.book.specs.declared.PrintSegment.{PrintSegment}
 use Rattle.book.specs.declared.Settings.{Settings}
 use Rattle.evaluation.specs.Counts.{electedCount}
 use Rattle.walks.proofs.Buffers.{Entry}
-use Rattle.walks.proofs.Known.{Known}
+use Rattle.walks.proofs.Contracts.{Known}
 use Rattle.walks.proofs.ListCalls.{proved}
 use Rattle.walks.proofs.Types.{PrintsOf, EvaluatedOf}
 use Rattle.walks.proofs.WordCalls.{Left, Shape, paired, Evaluates}

@@ -14,7 +14,7 @@ use Rattle.book.specs.declared.Settings.{Settings}
 use Rattle.evaluation.specs.Counts.{electedCount}
 use Rattle.evaluation.proofs.Rooms.{walk-lists, walk-cut}
 use Rattle.pricelevel.specs.Price.{toPrice}
-use Rattle.walks.proofs.Known.{Known}
+use Rattle.walks.proofs.Contracts.{Known}
 use Rattle.walks.proofs.ListCalls.{proved}
 use Rattle.walks.proofs.Types.{LastOf, EvaluatedOf}
 use Rattle.walks.proofs.WordCalls.{Left, Shape, single, first, Evaluates, Lists}
