@@ -1,7 +1,7 @@
 -- A local that is lent for a call, for a lifetime that is made for the call, and had back when that ends: a struct, and
 -- an array as a slice of all its elements.
 use mathlib.Core.Path.{_≡_, refl, subst, sym, _∙_}
-use Prim.Native.Nat.{ℕ, _≤_}
+use Prim.Native.Nat.{ℕ}
 use native.Mathlib.Omega.{arith}
 use mathlib.Core.List.{List, [], _∷_, _++_, map}
 use lib.ListN.{length, take, drop as without}
@@ -14,10 +14,9 @@ use Rattle.walks.proofs.WalkSteps.{some, later, _$_, move, drop, use1, use2, us
 use Rattle.walks.proofs.WalkSteps.{fjoin, fpick, fpack, feqI, await, lft-new, lft-end, Array, arrayVal, array-tells}
 use Rattle.walks.proofs.WalkSteps.{array-lawful, array-makes, Single, array-whole, yes, Last, left, row, Is, Tells}
 use Rattle.walks.proofs.WalkSteps.{Lawful, shows, lends-ref, ref-back, mem, lone, cellAt, partAt, RattleType, MutRef}
-use Rattle.walks.proofs.WalkSteps.{sliceVal, MutSlice, Room, finally, owned, peeks}
-use Rattle.walks.proofs.Buffers.{slot, Kept, lends-part, part-back}
+use Rattle.walks.proofs.WalkSteps.{sliceVal, MutSlice, Room, finally, owned, peeks, exit, now}
+use Rattle.walks.proofs.Buffers.{to-row, slot, Kept, lends-part, part-back}
 use Rattle.walks.proofs.Lent.{has}
-use Rattle.walks.proofs.Locals.{to-row}
 use Rattle.walks.proofs.Plain.{Plain, Stands}
 
 -- an array of n values of a plain type
@@ -73,7 +72,7 @@ module _ (P : Plain) (l ν : ℕ) (γ : GName) where
 module _ {M : Type 1} {𝓤 : URA M} {H : Heap 𝓤} {A : Atoms 𝓤} {K : Type 0} {W : Given 𝓤 H A} {Γ : List (Item 𝓤)}
     {G : Goal 𝓤 H} (P : Plain) (one : Single (P .row .mir)) (l : ℕ) where
   pub lends : K → Soaks G → (ℓ : Lifetime) (h : P .row .Denot) → Stands P h
-      → ((ν : ℕ) (γ : GName) → Seq K W (‵ (flft (ν ∷ []) fullShare) ∷ ‵ (Ref P l ν γ ℓ h) ∷ ‵ (Ours P l ν γ) ∷ Γ) G)
+      → ((ν : ℕ) (γ : GName) → Seq K W (‵ (Ref P l ν γ ℓ h) ∷ ‵ (flft (ν ∷ []) fullShare) ∷ ‵ (Ours P l ν γ) ∷ Γ) G)
       → Seq K W (‵ (fat fullShare (lone (P .row .mir)) l 0 (P .val h)) ∷ Γ) G
   unfolding partOf
   lends t z ℓ h is k =
@@ -82,7 +81,7 @@ module _ {M : Type 1} {𝓤 : URA M} {H : Heap 𝓤} {A : Atoms 𝓤} {K : Type 
       fpack t (List Val) (λ vs. fsep (cellAt fullShare (P .row .mir) vs l 0) (P .row .own h vs)) (P .val h ∷ []) $
       lft-new t z (λ ν. move t (1 ∷ []) $
       use1 W (later (some (λ (γ : GName). ‵ (Ref P l ν γ ℓ h) ⊛ ‵ (Ours P l ν γ))))
-      (lends-ref 𝓤 H A W (P .row) ℓ (ν ∷ []) h l 0) $ await t z $ pick t (λ γ. split t $ move t (2 ∷ 0 ∷ 1 ∷ []) $ k ν γ))
+      (lends-ref 𝓤 H A W (P .row) ℓ (ν ∷ []) h l 0) $ await t z $ pick t (λ γ. split t $ move t (0 ∷ 2 ∷ []) $ k ν γ))
 
   pub comes-home : K → Soaks G → (h : P .row .Denot) {ν : ℕ} {γ : GName}
       → (Stands P h → Seq K W (‵ (fat fullShare (lone (P .row .mir)) l 0 (P .val h)) ∷ Γ) G)
@@ -93,33 +92,35 @@ module _ {M : Type 1} {𝓤 : URA M} {H : Heap 𝓤} {A : Atoms 𝓤} {K : Type 
       shows-up t (P .row) (P .val) (P .tells) one l h k
 
 -- ---- an array of n
--- its values stand, and its cell
 module _ (P : Plain) (n : ℕ) (xs : List (P .row .Denot)) where
+  -- its values stand, and so are n; its cell
   abbrev Stand : Type 0
   Stand = Is (Array (P .row) n) xs (arrayVal (map (P .val) xs) ∷ [])
+
+  pub long : Stand → length (take n xs) ≡ n
+  long is = length-take-le n xs (omega (arith, is .1 .0 .1))
 
   abbrev lies : ℕ → Fml
   lies l = fat fullShare (tyArray (lone (P .row .mir)) n) l 0 (arrayVal (map (P .val) xs))
 
 module _ {M : Type 1} {𝓤 : URA M} {H : Heap 𝓤} {A : Atoms 𝓤} {K : Type 0} {W : Given 𝓤 H A} {Γ : List (Item 𝓤)}
-    {G : Goal 𝓤 H} (P : Plain) (one : Single (P .row .mir)) (n l : ℕ) where
-  pub lends-array : K → Soaks G → (ℓ : Lifetime) (xs : List (P .row .Denot)) → Stand P n xs → Room (P .row) n
-      → ((ν : ℕ) (δ : GName)
-      → Seq K W (‵ (MutSlice ℓ (ν ∷ []) (P .row) .own (slot (P .row) l δ (take n xs)) (sliceVal (l, 0) n ∷ []))
-      ∷ ‵ (flft (ν ∷ []) fullShare) ∷ ‵ (Kept (P .row) l n xs ν δ) ∷ Γ) G) → Seq K W (‵ (lies P n xs l) ∷ Γ) G
-  lends-array t z ℓ xs is room go =
+    {G : Goal 𝓤 H} (P : Plain) (one : Single (P .row .mir)) (n l : ℕ) (xs : List (P .row .Denot)) (is : Stand P n xs) where
+  pub lends-array : K → Soaks G → (ℓ : Lifetime) → Room (P .row) n
+      → ((ν : ℕ) (δ : GName) → Seq K W (‵ (MutSlice ℓ (ν ∷ []) (P .row) .own (slot (P .row) l δ (take n xs))
+      (sliceVal (l, 0) (length (take n xs)) ∷ [])) ∷ ‵ (flft (ν ∷ []) fullShare) ∷ ‵ (Kept (P .row) l n xs ν δ) ∷ Γ) G)
+      → Seq K W (‵ (lies P n xs l) ∷ Γ) G
+  lends-array t z ℓ room go =
       owned t (Array (P .row) n) (Is (Array (P .row) n)) (array-makes 𝓤 H A W (P .row) (P .makes 𝓤 H A W) n) xs _ is $
       move t (1 ∷ 0 ∷ []) $ use2 W (‵ (row (P .row) fullShare xs l 0))
       (to-row 𝓤 H A W (P .row) n l one xs (arrayVal (map (P .val) xs))) $
-      lends-part (P .row) l t z ℓ n xs (length-take-le n xs (omega (arith, is .1 .0 .1))) room go
+      lends-part (P .row) l t z ℓ n xs (subst (Room (P .row)) (sym (long P n xs is)) room) go
 
-  pub array-home : K → Soaks G → (xs : List (P .row .Denot)) → Stand P n xs → (zs : List (P .row .Denot))
-      → length zs ≡ length (take n xs) → {ν : ℕ} {δ : GName}
+  pub array-home : K → Soaks G → (zs : List (P .row .Denot)) → length zs ≡ length (take n xs) → {ν : ℕ} {δ : GName}
       → (Stand P n (zs ++ without n xs) → Seq K W (‵ (lies P n (zs ++ without n xs) l) ∷ Γ) G)
       → Seq K W (‵ (finally (P .row) δ zs) ∷ ‵ (flft (ν ∷ []) fullShare) ∷ ‵ (Kept (P .row) l n xs ν δ) ∷ Γ) G
-  array-home t z xs is zs long go =
-      part-back (P .row) l t z n xs zs (long ∙ length-take-le n xs (omega (arith, is .1 .0 .1))) $
-      feqI t ℕ (length (zs ++ without n xs)) n (length-front xs zs n long ∙ is .1 .0 .1) $ fjoin t $
+  array-home t z zs as-long go =
+      part-back (P .row) l t z n xs zs (as-long ∙ long P n xs is) $
+      feqI t ℕ (length (zs ++ without n xs)) n (length-front xs zs n as-long ∙ is .1 .0 .1) $ fjoin t $
       use1 W (‵ (partAt (Array (P .row) n) fullShare (zs ++ without n xs) l 0))
       (array-whole 𝓤 H A W (P .row) fullShare n (zs ++ without n xs) l 0) $
       shows-up t (Array (P .row) n) (λ xs. arrayVal (map (P .val) xs))
