@@ -14,7 +14,7 @@ use Rattle.walks.proofs.WalkSteps.{some, later, _$_, move, drop, use1, use2, us
 use Rattle.walks.proofs.WalkSteps.{fjoin, fpick, fpack, feqI, await, lft-new, lft-end, Array, arrayVal, array-tells}
 use Rattle.walks.proofs.WalkSteps.{array-lawful, array-makes, Single, array-whole, yes, Last, left, row, Is, Tells}
 use Rattle.walks.proofs.WalkSteps.{Lawful, shows, lends-ref, ref-back, mem, lone, cellAt, partAt, RattleType, MutRef}
-use Rattle.walks.proofs.WalkSteps.{sliceVal, MutSlice, Room, finally, owned, peeks, exit, now}
+use Rattle.walks.proofs.WalkSteps.{sliceVal, MutSlice, Room, finally, owned, peeks, now}
 use Rattle.walks.proofs.Buffers.{to-row, slot, Kept, lends-part, part-back}
 use Rattle.walks.proofs.Lent.{has}
 use Rattle.walks.proofs.Plain.{Plain, Stands}

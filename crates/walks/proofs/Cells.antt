@@ -1,19 +1,18 @@
 -- The locals of a function that is walked, one item each, in their order behind what else is had: a local is read, set,
 -- taken out and put back by its position; they are allocated where the function is entered, and freed where it returns.
 use mathlib.Core.Path.{_≡_, refl, sym, subst}
-use Prim.Native.Nat.{ℕ, zero}
+use Prim.Native.Nat.{ℕ}
 use mathlib.Core.List.{List, [], _∷_, _++_}
 use lib.Dec.{T as Holds}
 use lib.ListN.{getD, take, drop, take-append-drop}
 use mir.Syntax.{place}
-use types.Run.{Opd}
-use Rattle.walks.proofs.WalkSteps.{URA, fullShare, Ty, Local, Fn, Body, local, copy, return, Val, hasTy, WT}
-use Rattle.walks.proofs.WalkSteps.{SProp, ent, sep, wand, emp, id⊢, via, comm∗, assoc∗, assoc′, monoL, monoR}
-use Rattle.walks.proofs.WalkSteps.{guardI, snd∗, Share, fat, froom, fdies, Heap, Env, Calls, Loops, WpFn}
-use Rattle.walks.proofs.WalkSteps.{release, noLocal, spotOf, Atoms, Given, Item, Goal, Seq, Step, step, prop}
-use Rattle.walks.proofs.WalkSteps.{runs, allocs, passes, params′, atRet, ‵, raw, _⊛_, mean, ⋆, nth, del, put}
-use Rattle.walks.proofs.WalkSteps.{pull, fill, push, pop, ⊢++, ++⊢, _$_, _∵_, !, qed, by, move, use0, use1}
-use Rattle.walks.proofs.WalkSteps.{use2, split, join, assume, frame, each, done, Reads, Writes, stop, from}
+use types.Kit.{allocs, passes, params′, del, pull, fill, push, pop, ⊢++, ++⊢, assume, each}
+use Rattle.walks.proofs.WalkSteps.{Opd, URA, fullShare, Ty, Local, Fn, Body, local, copy, return, Val, hasTy}
+use Rattle.walks.proofs.WalkSteps.{WT, SProp, ent, sep, wand, emp, id⊢, via, comm∗, assoc∗, assoc′, monoL}
+use Rattle.walks.proofs.WalkSteps.{monoR, guardI, snd∗, Share, fat, froom, fdies, Heap, Env, Calls, Loops}
+use Rattle.walks.proofs.WalkSteps.{WpFn, release, noLocal, spotOf, Atoms, Given, Item, Goal, Seq, Step, step}
+use Rattle.walks.proofs.WalkSteps.{prop, runs, atRet, ‵, raw, _⊛_, mean, ⋆, nth, put, _$_, _∵_, !, qed, by}
+use Rattle.walks.proofs.WalkSteps.{move, use0, use1, use2, split, join, frame, done, Reads, Writes, stop, from}
 use Rattle.walks.proofs.WalkSteps.{load, returns, enter, alloc1, alloc0, params1, pass1, pass0, Part, look-in}
 use Rattle.walks.proofs.Frame.{Cell, room, full, away}
 
@@ -49,6 +48,12 @@ module _ {M : Type 1} {𝓤 : URA M} {H : Heap 𝓤} {A : Atoms 𝓤} {K : Type 
     same = refl;
   }
 
+-- an item is taken out by its position
+pulled : {M : Type 1} (𝓤 : URA M) (H : Heap 𝓤) (A : Atoms 𝓤) (Γ : List (Item 𝓤)) (n : ℕ) {i : Item 𝓤} → nth 𝓤 H A n Γ ≡ i
+    → ent 𝓤 (⋆ 𝓤 H A Γ) (sep 𝓤 (mean 𝓤 H A i) (⋆ 𝓤 H A (del 𝓤 H A n Γ)))
+pulled 𝓤 H A Γ n e = subst (λ (k : Item 𝓤). ent 𝓤 (⋆ 𝓤 H A Γ) (sep 𝓤 (mean 𝓤 H A k) (⋆ 𝓤 H A (del 𝓤 H A n Γ)))) e
+    (pull 𝓤 H A n Γ)
+
 module _ {M : Type 1} {𝓤 : URA M} {H : Heap 𝓤} {A : Atoms 𝓤} {K : Type 0} {W : Given 𝓤 H A} {Γ : List (Item 𝓤)} where
   -- what a local holds, and the same as an operand
   pub reads-at : K → (n : ℕ) {τ : Ty} {b o : ℕ} {v : Val} {j : Item 𝓤} → nth 𝓤 H A n Γ ≡ (‵ (fat fullShare τ b o v) ⊛ j)
@@ -67,8 +72,7 @@ module _ {M : Type 1} {𝓤 : URA M} {H : Heap 𝓤} {A : Atoms 𝓤} {K : Type 
   sets t n {τ} {b} {o} {v} {j} e wt = record {
     go = λ P h.
         let rest : SProp 𝓤 = ⋆ 𝓤 H A (del 𝓤 H A n Γ) in
-        via 𝓤 (sep 𝓤 (sep 𝓤 (H .room τ b o) (mean 𝓤 H A j)) rest)
-        (subst (λ (k : Item 𝓤). ent 𝓤 (⋆ 𝓤 H A Γ) (sep 𝓤 (mean 𝓤 H A k) rest)) e (pull 𝓤 H A n Γ))
+        via 𝓤 (sep 𝓤 (sep 𝓤 (H .room τ b o) (mean 𝓤 H A j)) rest) (pulled 𝓤 H A Γ n e)
         (via 𝓤 (sep 𝓤 (H .room τ b o) (wand 𝓤 (H .at fullShare τ b o v) P))
         (qed W ((‵ (froom τ b o) ⊛ j) ∷ raw rest ∷ []) ∵ split ! $ frame ! $
         assume ! (‵ (fat fullShare τ b o v)) $ move ! (0 ∷ 1 ∷ []) $ join ! $
@@ -81,33 +85,23 @@ module _ {M : Type 1} {𝓤 : URA M} {H : Heap 𝓤} {A : Atoms 𝓤} {K : Type 
     -- what a local holds is forgotten
     pub forgets : K → (n : ℕ) {τ : Ty} {b o : ℕ} {v : Val} {j : Item 𝓤} → nth 𝓤 H A n Γ ≡ (‵ (fat fullShare τ b o v) ⊛ j)
         → Step K W (put 𝓤 H A n (‵ (froom τ b o) ⊛ j) Γ) G Γ G
-    forgets t n {τ} {b} {o} {v} {j} e = step (λ s. by t
-        (via 𝓤 (sep 𝓤 (sep 𝓤 (H .at fullShare τ b o v) (mean 𝓤 H A j)) (⋆ 𝓤 H A (del 𝓤 H A n Γ)))
-        (subst (λ (k : Item 𝓤). ent 𝓤 (⋆ 𝓤 H A Γ) (sep 𝓤 (mean 𝓤 H A k) (⋆ 𝓤 H A (del 𝓤 H A n Γ)))) e (pull 𝓤 H A n Γ))
+    forgets t n {τ} {b} {o} {v} {j} e = step (λ s. by t (via 𝓤 _ (pulled 𝓤 H A Γ n e)
         (via 𝓤 (sep 𝓤 (sep 𝓤 (H .room τ b o) (mean 𝓤 H A j)) (⋆ 𝓤 H A (del 𝓤 H A n Γ)))
         (monoL 𝓤 (⋆ 𝓤 H A (del 𝓤 H A n Γ)) (monoL 𝓤 (mean 𝓤 H A j) (W .laws .at-room τ b o v)))
-        (via 𝓤 (⋆ 𝓤 H A (put 𝓤 H A n (‵ (froom τ b o) ⊛ j) Γ)) (fill 𝓤 H A n (‵ (froom τ b o) ⊛ j) Γ) (s .prf)))))
+        (via 𝓤 _ (fill 𝓤 H A n (‵ (froom τ b o) ⊛ j) Γ) (s .prf)))))
 
     -- the first part of an item is taken out of it to the front, and put back
     pub takes : K → (n : ℕ) {i j : Item 𝓤} → nth 𝓤 H A n Γ ≡ (i ⊛ j) → Step K W (i ∷ put 𝓤 H A n j Γ) G Γ G
-    takes t n {i} {j} e = step (λ s. by t
-        (via 𝓤 (sep 𝓤 (mean 𝓤 H A (i ⊛ j)) (⋆ 𝓤 H A (del 𝓤 H A n Γ)))
-        (subst (λ (k : Item 𝓤). ent 𝓤 (⋆ 𝓤 H A Γ) (sep 𝓤 (mean 𝓤 H A k) (⋆ 𝓤 H A (del 𝓤 H A n Γ)))) e (pull 𝓤 H A n Γ))
-        (via 𝓤 (sep 𝓤 (mean 𝓤 H A i) (sep 𝓤 (mean 𝓤 H A j) (⋆ 𝓤 H A (del 𝓤 H A n Γ))))
-        (assoc∗ 𝓤 (mean 𝓤 H A i) (mean 𝓤 H A j) (⋆ 𝓤 H A (del 𝓤 H A n Γ)))
-        (via 𝓤 (sep 𝓤 (mean 𝓤 H A i) (⋆ 𝓤 H A (put 𝓤 H A n j Γ))) (monoR 𝓤 (mean 𝓤 H A i) (fill 𝓤 H A n j Γ))
-        (via 𝓤 (⋆ 𝓤 H A (i ∷ put 𝓤 H A n j Γ)) (push 𝓤 H A i (put 𝓤 H A n j Γ)) (s .prf))))))
+    takes t n {i} {j} e = step (λ s. by t (via 𝓤 _ (pulled 𝓤 H A Γ n e)
+        (via 𝓤 _ (assoc∗ 𝓤 (mean 𝓤 H A i) (mean 𝓤 H A j) (⋆ 𝓤 H A (del 𝓤 H A n Γ)))
+        (via 𝓤 _ (monoR 𝓤 (mean 𝓤 H A i) (fill 𝓤 H A n j Γ)) (via 𝓤 _ (push 𝓤 H A i (put 𝓤 H A n j Γ)) (s .prf))))))
 
     pub puts : K → (n : ℕ) {i : Item 𝓤} (j : Item 𝓤) → nth 𝓤 H A n Γ ≡ j
         → Step K W (put 𝓤 H A n (i ⊛ j) Γ) G (i ∷ Γ) G
-    puts t n {i} j e = step (λ s. by t
-        (via 𝓤 (sep 𝓤 (mean 𝓤 H A i) (⋆ 𝓤 H A Γ)) (pop 𝓤 H A i Γ)
-        (via 𝓤 (sep 𝓤 (mean 𝓤 H A i) (sep 𝓤 (mean 𝓤 H A j) (⋆ 𝓤 H A (del 𝓤 H A n Γ))))
-        (monoR 𝓤 (mean 𝓤 H A i)
-        (subst (λ (k : Item 𝓤). ent 𝓤 (⋆ 𝓤 H A Γ) (sep 𝓤 (mean 𝓤 H A k) (⋆ 𝓤 H A (del 𝓤 H A n Γ)))) e (pull 𝓤 H A n Γ)))
-        (via 𝓤 (sep 𝓤 (mean 𝓤 H A (i ⊛ j)) (⋆ 𝓤 H A (del 𝓤 H A n Γ)))
-        (assoc′ 𝓤 (mean 𝓤 H A i) (mean 𝓤 H A j) (⋆ 𝓤 H A (del 𝓤 H A n Γ)))
-        (via 𝓤 (⋆ 𝓤 H A (put 𝓤 H A n (i ⊛ j) Γ)) (fill 𝓤 H A n (i ⊛ j) Γ) (s .prf))))))
+    puts t n {i} j e = step (λ s. by t (via 𝓤 _ (pop 𝓤 H A i Γ)
+        (via 𝓤 _ (monoR 𝓤 (mean 𝓤 H A i) (pulled 𝓤 H A Γ n e))
+        (via 𝓤 _ (assoc′ 𝓤 (mean 𝓤 H A i) (mean 𝓤 H A j) (⋆ 𝓤 H A (del 𝓤 H A n Γ)))
+        (via 𝓤 _ (fill 𝓤 H A n (i ⊛ j) Γ) (s .prf))))))
 
 -- ---- entry
 -- a block for each local

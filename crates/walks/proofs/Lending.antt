@@ -7,13 +7,13 @@ use mathlib.Core.Option.{some}
 use lib.ListN.{getD}
 use mir.Syntax.{place}
 use mir.Fields.{getV}
-use types.Run.{Walks, Opd}
-use Rattle.walks.proofs.WalkSteps.{URA, fullShare, Ty, PStep, Opd as Operand, Body, w64, tyInt, tcons, tnil}
+use types.Run.{Walks}
+use prog.Memory.{fieldAt}
+use Rattle.walks.proofs.WalkSteps.{Opd, URA, fullShare, Ty, PStep, Operand, Body, w64, tyInt, tcons, tnil}
 use Rattle.walks.proofs.WalkSteps.{field, deref, copy, addrOf, aggregate, assign, seq, vptr, vint, vcons, vnil}
-use Rattle.walks.proofs.WalkSteps.{fieldAt, Heap, Env, Spot, Calls, Loops, noLocal, Atoms, Given, Item, Post}
-use Rattle.walks.proofs.WalkSteps.{Step, step, runs, nth, put, _$_, Reads, Finds, stop, hop, fld, from, load}
-use Rattle.walks.proofs.WalkSteps.{addr, and-then, no-more, assigns, Part, agg, sub, look-in, sliceTy}
-use Rattle.walks.proofs.WalkSteps.{sliceVal}
+use Rattle.walks.proofs.WalkSteps.{Heap, Env, Spot, Calls, Loops, noLocal, Atoms, Given, Item, Post, Step}
+use Rattle.walks.proofs.WalkSteps.{step, runs, nth, put, _$_, Reads, Finds, stop, hop, fld, from, load, addr}
+use Rattle.walks.proofs.WalkSteps.{and-then, no-more, assigns, Part, agg, sub, look-in, sliceTy, sliceVal}
 use Rattle.walks.proofs.Cells.{Typed, cell, cellAt, held, reads, sets}
 use Rattle.walks.proofs.Frame.{room, full}
 

@@ -9,7 +9,6 @@ pub mod FillLoop
 pub mod Frame
 pub mod Lending
 pub mod Lent
-pub mod Lets
 pub mod Params
 pub mod ThinStores
 pub mod Plain

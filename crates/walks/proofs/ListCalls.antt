@@ -9,16 +9,15 @@ use mathlib.Core.List.{[], _∷_, _++_, List, map}
 use lib.ListN.{length, take, drop as without, length-take}
 use lib.Seq.{length-front}
 use mir.Syntax.{place}
-use contract.Lifetimes.{Lfts, Shares}
-use Rattle.walks.proofs.WalkSteps.{URA, fullShare, Name, Fn, Body, named, w64, tyInt, tyArray, field, copy}
-use Rattle.walks.proofs.WalkSteps.{int, rvOpd, repeat, assign, seq, return, call, Val, vint, SProp, ent, Lft}
-use Rattle.walks.proofs.WalkSteps.{Share, Fml, ftrue, froom, flft, Model, RoutineEnv, Heap, Env, Calls, Loops}
-use Rattle.walks.proofs.WalkSteps.{WpFn, Closed, Atoms, GhostRules, Running, givenOf, tables, Given, Sq, runs}
-use Rattle.walks.proofs.WalkSteps.{atRet, ‵, _⊛_, ⋆, _$_, _∵_, !, qed, by, move, keep, drop, use1, use2, split}
-use Rattle.walks.proofs.WalkSteps.{join, fsplit, fjoin, and-then, no-more, assigns, land, from, stop, fld}
-use Rattle.walks.proofs.WalkSteps.{load, of-opd, lit, rep, sub, look-in, store-in, FmC, fmOf, Is, u64, RefT}
-use Rattle.walks.proofs.WalkSteps.{sliceVal, MutSlice, Room, finally, yes, Seen, see, nothing, Triple, row}
-use Rattle.walks.proofs.WalkSteps.{exit, rewrite, feqL, prop, now, Denots}
+use Rattle.walks.proofs.WalkSteps.{Lfts, Shares, URA, fullShare, Name, Fn, Body, named, w64, tyInt, tyArray}
+use Rattle.walks.proofs.WalkSteps.{field, copy, int, rvOpd, repeat, assign, seq, return, call, Val, vint}
+use Rattle.walks.proofs.WalkSteps.{SProp, ent, Lft, Share, Fml, ftrue, froom, flft, Model, RoutineEnv, Heap}
+use Rattle.walks.proofs.WalkSteps.{Env, Calls, Loops, WpFn, Closed, Atoms, GhostRules, Running, givenOf}
+use Rattle.walks.proofs.WalkSteps.{tables, Given, Sq, runs, atRet, ‵, _⊛_, ⋆, _$_, _∵_, !, qed, by, move, keep}
+use Rattle.walks.proofs.WalkSteps.{drop, use1, use2, split, join, fsplit, fjoin, and-then, no-more, assigns}
+use Rattle.walks.proofs.WalkSteps.{land, from, stop, fld, load, of-opd, lit, rep, sub, look-in, store-in, FmC}
+use Rattle.walks.proofs.WalkSteps.{fmOf, Is, u64, RefT, sliceVal, MutSlice, Room, finally, yes, Seen, see}
+use Rattle.walks.proofs.WalkSteps.{nothing, Triple, row, rewrite, feqL, prop, Denots}
 use Rattle.book.specs.Calls.{written}
 use Rattle.book.specs.declared.Settings.{Settings}
 use Rattle.walks.proofs.Buffers.{Entry, slot, blank-length, blankVal, zeros, zeroed, to-row, row-room, lends-all, all-back}

@@ -7,18 +7,16 @@ use native.Mathlib.Omega.{arith}
 use mathlib.Core.List.{[], _∷_, _++_, List, map}
 use lib.ListN.{length, take, drop as without, length-take}
 use mir.Syntax.{place}
-use contract.Lifetimes.{Lfts, Shares}
-use denote.Triple.End.{Outs}
-use Rattle.walks.proofs.WalkSteps.{URA, fullShare, Name, Ty, Local, Place, Body, Opd as Operand, named, erased}
-use Rattle.walks.proofs.WalkSteps.{mut, imm, w64, tyInt, tyUnit, tyRef, tyArray, local, valueLocal, memorySlot}
-use Rattle.walks.proofs.WalkSteps.{field, deref, copy, addrOf, aggregate, assign, seq, call, Val, vint, Lft}
-use Rattle.walks.proofs.WalkSteps.{Share, GName, flft, Heap, Env, Calls, Loops, Atoms, Given, Item, Post, Go}
-use Rattle.walks.proofs.WalkSteps.{Sq, runs, lands, ‵, raw, _$_, !, move, drop, split, join, fsplit, fjoin}
-use Rattle.walks.proofs.WalkSteps.{feqL, Opds, and-then, no-more, land, from, stop, FmC, RattleType, pointee}
-use Rattle.walks.proofs.WalkSteps.{Is, Tells, u64, RefT, sliceTy, sliceVal, MutSlice, ShrSlice, Room}
-use Rattle.walks.proofs.WalkSteps.{mut-slice-tells, shr-slice-tells, row, yes, Seen, Last, left, see, plain}
-use Rattle.walks.proofs.WalkSteps.{mutSliceOf, nothing, Triple, exit, rewrite, now, Denots, flat, slice-vals}
-use Rattle.walks.proofs.WalkSteps.{typesAt}
+use Rattle.walks.proofs.WalkSteps.{Lfts, Shares, Outs, URA, fullShare, Name, Ty, Local, Place, Body, Operand}
+use Rattle.walks.proofs.WalkSteps.{named, erased, mut, imm, w64, tyInt, tyUnit, tyRef, tyArray, local}
+use Rattle.walks.proofs.WalkSteps.{valueLocal, memorySlot, field, deref, copy, addrOf, aggregate, assign, seq}
+use Rattle.walks.proofs.WalkSteps.{call, Val, vint, Lft, Share, GName, flft, Heap, Env, Calls, Loops, Atoms}
+use Rattle.walks.proofs.WalkSteps.{Given, Item, Post, Go, Sq, runs, lands, ‵, raw, _$_, !, move, drop, split}
+use Rattle.walks.proofs.WalkSteps.{join, fsplit, fjoin, feqL, Opds, and-then, no-more, land, from, stop, FmC}
+use Rattle.walks.proofs.WalkSteps.{RattleType, pointee, Is, Tells, u64, RefT, sliceTy, sliceVal, MutSlice}
+use Rattle.walks.proofs.WalkSteps.{ShrSlice, Room, mut-slice-tells, shr-slice-tells, row, yes, Seen, Last}
+use Rattle.walks.proofs.WalkSteps.{left, see, plain, mutSliceOf, nothing, Triple, rewrite, Denots, flat}
+use Rattle.walks.proofs.WalkSteps.{slice-vals, typesAt}
 use Rattle.book.specs.Calls.{written}
 use Rattle.book.specs.declared.Settings.{Settings}
 use Rattle.walks.proofs.Buffers.{Entry, slot, Kept, blank, blank-length, room-below, lends-part, part-back}

@@ -5,7 +5,7 @@ use mathlib.Core.List.{[], _∷_}
 use Rattle.walks.proofs.WalkSteps.{URA, fullShare, named, w64, Val, vint, SProp, ent, emp, Heap, Calls, Loops, WpFn}
 use Rattle.walks.proofs.WalkSteps.{Atoms, givenOf, Given, _$_, _∵_, !, qed, by, move, drop, split, fsplit, fjoin}
 use Rattle.walks.proofs.WalkSteps.{stop, from, addr, of-opd, and-then, no-more, assigns, land, FmC, nothing, Triple}
-use Rattle.walks.proofs.WalkSteps.{fmOf, join, prop, Sq, now, row}
+use Rattle.walks.proofs.WalkSteps.{fmOf, join, prop, Sq, now}
 use Rattle.book.specs.declared.LastPrice.{LastPrice}
 use Rattle.book.specs.declared.PrintPath.{PrintPath}
 use Rattle.book.specs.Path.{recorded}

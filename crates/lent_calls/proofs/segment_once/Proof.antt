@@ -10,7 +10,7 @@ use Rattle.walks.proofs.WalkSteps.{Sq, runs, atRet, lit, fmOf, Env, URA, fullSh
 use Rattle.walks.proofs.WalkSteps.{Lft, Share, ftrue, flft, Heap, Calls, Loops, WpFn, Atoms, givenOf, Given, ‵, _⊛_}
 use Rattle.walks.proofs.WalkSteps.{⋆, _$_, _∵_, !, qed, by, move, keep, drop, split, join, fsplit, fjoin, feqL, stop}
 use Rattle.walks.proofs.WalkSteps.{from, of-opd, and-then, no-more, assigns, land, unit-lit, FmC, RefT, sliceVal}
-use Rattle.walks.proofs.WalkSteps.{MutSlice, Room, u64, nothing, Triple, rewrite, prop, now, finally, row}
+use Rattle.walks.proofs.WalkSteps.{MutSlice, Room, u64, nothing, Triple, rewrite, prop, finally}
 use Rattle.book.specs.Answers.{toldCounts}
 use Rattle.book.specs.Calls.{written, segmentCall, SegmentOutcome}
 use Rattle.book.specs.declared.Elected.{Elected}
