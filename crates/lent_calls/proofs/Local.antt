@@ -104,7 +104,8 @@ module _ (P : Plain) (n : ℕ) (xs : List (P .row .Denot)) where
   lies l = fat fullShare (tyArray (lone (P .row .mir)) n) l 0 (arrayVal (map (P .val) xs))
 
 module _ {M : Type 1} {𝓤 : URA M} {H : Heap 𝓤} {A : Atoms 𝓤} {K : Type 0} {W : Given 𝓤 H A} {Γ : List (Item 𝓤)}
-    {G : Goal 𝓤 H} (P : Plain) (one : Single (P .row .mir)) (n l : ℕ) (xs : List (P .row .Denot)) (is : Stand P n xs) where
+    {G : Goal 𝓤 H} (P : Plain) (one : Single (P .row .mir)) (n l : ℕ) (xs : List (P .row .Denot))
+    (is : Stand P n xs) where
   pub lends-array : K → Soaks G → (ℓ : Lifetime) → Room (P .row) n
       → ((ν : ℕ) (δ : GName) → Seq K W (‵ (MutSlice ℓ (ν ∷ []) (P .row) .own (slot (P .row) l δ (take n xs))
       (sliceVal (l, 0) (length (take n xs)) ∷ [])) ∷ ‵ (flft (ν ∷ []) fullShare) ∷ ‵ (Kept (P .row) l n xs ν δ) ∷ Γ) G)

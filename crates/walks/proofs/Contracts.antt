@@ -97,8 +97,8 @@ module _ (F : Form) where
 
   -- a plain answer lands as its value
   lands-as : {M : Type 1} {𝓤 : URA M} {H : Heap 𝓤} {A : Atoms 𝓤} {K : Type 0} {W : Given 𝓤 H A} {Γ : List (Item 𝓤)}
-      {C : Calls 𝓤 H} {Λ : Loops 𝓤 H} {E : Env 𝓤 H} {q : Next 𝓤 H} {d : Place} {rest : Body} → K → (r : P .row .Denot) (w : Val)
-      → Is (P .row) r (w ∷ []) → Step K W Γ (lands C Λ E d (P .val r) rest q) Γ (lands C Λ E d w rest q)
+      {C : Calls 𝓤 H} {Λ : Loops 𝓤 H} {E : Env 𝓤 H} {q : Next 𝓤 H} {d : Place} {rest : Body} → K → (r : P .row .Denot)
+      (w : Val) → Is (P .row) r (w ∷ []) → Step K W Γ (lands C Λ E d (P .val r) rest q) Γ (lands C Λ E d w rest q)
   lands-as {K = K} {W = W} {Γ} {C} {Λ} {E} {q} {d} {rest} t r w is = step
       (λ s. subst (λ (v : Val). Seq K W Γ (lands C Λ E d v rest q)) (sym (value P r w is)) s)
 
@@ -181,8 +181,8 @@ module _ (Ps : List Plain) (P : Plain) (φs : Denots (taken Ps) → P .row .Deno
   }
 
   pub computes : {M : Type 1} {𝓤 : URA M} {H : Heap 𝓤} {A : Atoms 𝓤} {K : Type 0} {W : Given 𝓤 H A} {Γ : List (Item 𝓤)}
-      {C : Calls 𝓤 H} {Λ : Loops 𝓤 H} {E : Env 𝓤 H} {q : Next 𝓤 H} {f : Name} {xs : List Operand} {d : Place} {rest : Body} → K
-      → FmC 𝓤 H (W .laws) C → Triple 𝓤 (C f) (Keeps Computes _ 𝓤 H A) → (a : Denots (taken Ps))
+      {C : Calls 𝓤 H} {Λ : Loops 𝓤 H} {E : Env 𝓤 H} {q : Next 𝓤 H} {f : Name} {xs : List Operand} {d : Place}
+      {rest : Body} → K → FmC 𝓤 H (W .laws) C → Triple 𝓤 (C f) (Keeps Computes _ 𝓤 H A) → (a : Denots (taken Ps))
       → Are (taken Ps) (Ises (taken Ps)) a (spelt Computes tt a)
       → Opds K W (raw (Asked Computes 𝓤 H A tt tt a) ∷ Γ) E xs (flat (taken Ps) (spelt Computes tt a))
       → ((r : P .row .Denot) → Stands P r → All (φs a r) → Seq K W Γ (lands C Λ E d (P .val r) rest q))

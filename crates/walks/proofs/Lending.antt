@@ -19,8 +19,8 @@ use Rattle.walks.proofs.Frame.{room, full}
 
 module _ {M : Type 1} {𝓤 : URA M} {H : Heap 𝓤} {A : Atoms 𝓤} {K : Type 0} {W : Given 𝓤 H A} {Γ : List (Item 𝓤)} where
   -- a field of the slice in a local, and a place within a local
-  in-slice : K → (n k : ℕ) {ρ τ : Ty} {l c d : ℕ} {p : ℕ × ℕ} → nth 𝓤 H A n Γ ≡ cell 𝓤 H (sliceTy ρ, l) (full (sliceVal p c))
-      → fieldAt 0 (tcons ρ (tcons (tyInt w64) tnil)) k ≡ some (τ, d)
+  in-slice : K → (n k : ℕ) {ρ τ : Ty} {l c d : ℕ} {p : ℕ × ℕ} → nth 𝓤 H A n Γ ≡ cell 𝓤 H (sliceTy ρ, l)
+      (full (sliceVal p c)) → fieldAt 0 (tcons ρ (tcons (tyInt w64) tnil)) k ≡ some (τ, d)
       → Reads K W Γ τ l (0 + d) (getV (vcons (vptr (p .0) (p .1)) (vcons (vint w64 c) vnil)) k)
   in-slice t n k {ρ} {l = l} {c} {p = p} is at-k = look-in t n (sub t k at-k (subst (λ (j : Item 𝓤). Part K W j fullShare
       (sliceTy ρ) l 0 (sliceVal p c) (λ u. cell 𝓤 H (sliceTy ρ, l) (full u))) (sym is) (held t)))
@@ -30,8 +30,8 @@ module _ {M : Type 1} {𝓤 : URA M} {H : Heap 𝓤} {A : Atoms 𝓤} {K : Type 
   within t {E} {st = st} {sp} spot w = from t
       (subst (λ (e : Ty × ℕ). Walks K W Γ E (e .0, e .1, 0) st sp) (sym spot) w)
 
-module _ {M : Type 1} {𝓤 : URA M} {H : Heap 𝓤} {A : Atoms 𝓤} {K : Type 0} {W : Given 𝓤 H A} {Γ : List (Item 𝓤)} {C : Calls 𝓤 H}
-    {Λ : Loops 𝓤 H} {E : Env 𝓤 H} {q : Post 𝓤 H} {rest : Body} where
+module _ {M : Type 1} {𝓤 : URA M} {H : Heap 𝓤} {A : Atoms 𝓤} {K : Type 0} {W : Given 𝓤 H A} {Γ : List (Item 𝓤)}
+    {C : Calls 𝓤 H} {Λ : Loops 𝓤 H} {E : Env 𝓤 H} {q : Post 𝓤 H} {rest : Body} where
   -- `_d = &(*_i.0); _e = [_d, _i.1]`
   pub relends : K → (g i d : ℕ) {ρ σ : Ty} {l c : ℕ} {p : ℕ × ℕ} → getD E i (noLocal 𝓤 H) ≡ (sliceTy ρ, l)
       → nth 𝓤 H A (g + i) Γ ≡ cell 𝓤 H (sliceTy ρ, l) (full (sliceVal p c))

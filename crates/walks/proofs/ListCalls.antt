@@ -20,7 +20,8 @@ use Rattle.walks.proofs.WalkSteps.{fmOf, Is, u64, RefT, sliceVal, MutSl
 use Rattle.walks.proofs.WalkSteps.{nothing, Triple, row, rewrite, feqL, prop, Denots}
 use Rattle.book.specs.Calls.{written}
 use Rattle.book.specs.declared.Settings.{Settings}
-use Rattle.walks.proofs.Buffers.{Entry, slot, blank-length, blankVal, zeros, zeroed, to-row, row-room, lends-all, all-back}
+use Rattle.walks.proofs.Buffers.{Entry, slot, blank-length, blankVal, zeros, zeroed, to-row, row-room}
+use Rattle.walks.proofs.Buffers.{lends-all, all-back}
 use Rattle.walks.proofs.Cells.{Blocks, envOf, cells, cellAt, held, reads, sets, takes, puts, enters, leaves}
 use Rattle.walks.proofs.Claims.{All, the-first, others-and}
 use Rattle.walks.proofs.Contracts.{Form, Known, Keeps, rows, ends, calls, Computes, computes}
@@ -181,8 +182,10 @@ module _ (L : Listing) (P : Plain) {T : Type 0} (told : P .row .Denot → T) (co
 
     -- ---- the walk
     module _ (C : Calls 𝓤 H) (Λ : Loops 𝓤 H) (fm : FmC 𝓤 H (W .laws) C) (least callee counter filler : Name)
-        (known₀ : Triple 𝓤 (C least) (Keeps Least _ 𝓤 H A)) (known₁ : Triple 𝓤 (C callee) (Keeps (Evaluates L P told sh outcome) _ 𝓤 H A))
-        (known₂ : Triple 𝓤 (C counter) (Keeps (Counts P (λ r. count (told r))) _ 𝓤 H A)) (known₃ : Triple 𝓤 (C filler) (Keeps (Fills R (L .wide) (L .of)) _ 𝓤 H A))
+        (known₀ : Triple 𝓤 (C least) (Keeps Least _ 𝓤 H A)) (known₁ : Triple 𝓤 (C callee)
+        (Keeps (Evaluates L P told sh outcome) _ 𝓤 H A))
+        (known₂ : Triple 𝓤 (C counter) (Keeps (Counts P (λ r. count (told r))) _ 𝓤 H A))
+        (known₃ : Triple 𝓤 (C filler) (Keeps (Fills R (L .wide) (L .of)) _ 𝓤 H A))
         (fits₁ : Room u64 (length (xs .now))) (fits₃ : Room (R .row) n) where
       module _ (bs : Blocks (locals L P sh)) where
         abbrev En : Env 𝓤 H
@@ -200,7 +203,8 @@ module _ (L : Listing) (P : Plain) {T : Type 0} (told : P .row .Denot → T) (co
           -- the locals when i entries were counted, before the list is filled and after it
           abbrev got : Cell → Cell → ℕ → List Cell → List Cell
           got c d i cs = c ∷ full s₁ ∷ full (SettingsOf .val settings) ∷ full (third sh .val κ₂ x)
-              ∷ full (fourth sh .val κ₂ y) ∷ full s₃ ∷ d ∷ full (vint w64 j) ∷ full (P .val (s .answer)) ∷ full (zeros (L .wide))
+              ∷ full (fourth sh .val κ₂ y) ∷ full s₃ ∷ d ∷ full (vint w64 j) ∷ full (P .val (s .answer))
+              ∷ full (zeros (L .wide))
               ∷ full (vint w64 i) ∷ full u₁ ∷ full u₂ ∷ full u₃ ∷ full u₄ ∷ full u₅ ∷ full u₆ ∷ cs
 
           writes : Sq W (‵ (row (Entry (L .wide)) fullShare words l 0)
@@ -212,11 +216,12 @@ module _ (L : Listing) (P : Plain) {T : Type 0} (told : P .row .Denot → T) (co
               points ! 8 6 20 refl (tt, tt) refl (L .most .reads !) refl (tt, (tt, (record { fits = L .fits .0 }, tt))) $
               computes (P ∷ []) word (λ a r. (r ≡ count (told (a .0))) ∷ []) ! fm known₂ (s .answer, tt) (s .is, tt)
               (and-then ! (reads ! 17 refl) (no-more !)) (λ i i-is counted.
-              land ! (from ! (stop !)) (store-in ! 18 (held !) (word .typed 𝓤 H A W i _ i-is)) $ move ! (0 ∷ 6 ∷ 7 ∷ []) $
+              land ! (from ! (stop !)) (store-in ! 18 (held !) (word .typed 𝓤 H A W i _ i-is)) $
+              move ! (0 ∷ 6 ∷ 7 ∷ []) $
               rewrite ! 29 (λ (c : ℕ). cellAt 𝓤 H En 21 (full (sliceVal (l, 0) c))) (sym (all-long j room-is s)) refl $
-              lends-all (Entry (L .wide)) l ! tt (named 1) words (subst (Room (Entry (L .wide))) (sym (all-long j room-is s)) (L .fits))
-              (λ ν δ.
-              -- [what is lent; its token; the lender's part; the list; its token; what is left of the three; the locals (10)]
+              lends-all (Entry (L .wide)) l ! tt (named 1) words (subst (Room (Entry (L .wide)))
+              (sym (all-long j room-is s)) (L .fits)) (λ ν δ.
+              -- [what is lent; its token; the lender's part; the list; its token; what is left of the three; …]
               nothing ! $ has word ! i i-is $ fjoin ! $ move ! (1 ∷ 0 ∷ []) $ fjoin ! $ move ! (3 ∷ 0 ∷ []) $ fjoin ! $
               nothing ! $ move ! (2 ∷ 0 ∷ []) $ join ! $ move ! (3 ∷ 0 ∷ []) $ join ! $
               calls (Fills R (L .wide) (L .of)) ! fm known₃ (κ₃, (ν ∷ [], tt)) (q₃, (fullShare, tt))
@@ -234,7 +239,8 @@ module _ (L : Listing) (P : Plain) {T : Type 0} (told : P .row .Denot → T) (co
               (sets ! 8 refl (P .typed 𝓤 H A W (s .answer) _ (s .is))) $
               use1 W (‵ (froom (tyArray (tyArray (tyInt w64) (L .wide)) m) l 0))
               (row-room 𝓤 H A W (Entry (L .wide)) m l words (all-long j room-is s)) $ puts ! 13 _ refl $
-              leaves ! 7 (got (full (P .val (s .answer))) empty i (full _ ∷ full _ ∷ full _ ∷ full _ ∷ full _ ∷ [])) refl tt refl $ by ! (exits j room-is s i counted (zs .0) long h)))))
+              leaves ! 7 (got (full (P .val (s .answer))) empty i (full _ ∷ full _ ∷ full _ ∷ full _ ∷ full _
+              ∷ [])) refl tt refl $ by ! (exits j room-is s i counted (zs .0) long h)))))
 
         begins : Is (third sh .row κ₂) x (third sh .val κ₂ x ∷ []) → Is (fourth sh .row κ₂) y (fourth sh .val κ₂ y ∷ [])
             → Sq W (Owned 𝓤 κ₁ κ₂ q₁ q₂ xs sh x y ++ ‵ Records ∷ ‵ (flft κ₃ q₃)
@@ -254,8 +260,8 @@ module _ (L : Listing) (P : Plain) {T : Type 0} (told : P .row .Denot → T) (co
             (and-then ! (reads ! 19 refl) (and-then ! (L .most .reads !) (no-more !))) (λ j j-is room-is.
             land ! (from ! (stop !)) (sets ! 15 refl (word .typed 𝓤 H A W j _ j-is)) $
             evaluates L P told 𝓤 H A W κ₁ κ₂ q₁ q₂ xs settings settings-is j (omega (arith, room-is)) C Λ fm callee
-            (fills-list counter filler) (atRet En Post) fits₁ (‵ Records) (‵ (flft κ₃ q₃)) s₃ (zeros (L .wide)) (vint w64 n) sh
-            outcome x y bs x-is y-is known₁ (writes j room-is)))
+            (fills-list counter filler) (atRet En Post) fits₁ (‵ Records) (‵ (flft κ₃ q₃)) s₃ (zeros (L .wide))
+            (vint w64 n) sh outcome x y bs x-is y-is known₁ (writes j room-is)))
 
       walk : Is (third sh .row κ₂) x (third sh .val κ₂ x ∷ []) → Is (fourth sh .row κ₂) y (fourth sh .val κ₂ y ∷ [])
           → Sq W ((‵ (flft κ₁ q₁) ⊛ ‵ (flft κ₂ q₂) ⊛ ‵ (flft κ₃ q₃) ⊛ ‵ ftrue) ∷ ‵ (contracts.Owned Listed κs a) ∷ [])
@@ -263,8 +269,8 @@ module _ (L : Listing) (P : Plain) {T : Type 0} (told : P .row .Denot → T) (co
       walk x-is y-is =
           split ! $ move ! (1 ∷ []) $ split ! $ move ! (1 ∷ []) $ split ! $
           -- [the list's token; true; the second; the store's; what the parameters own]
-          move ! (4 ∷ []) $ fsplit ! $ move ! (1 ∷ []) $ fsplit ! $ drop ! $ fsplit ! $ move ! (1 ∷ []) $ fsplit ! $ move !
-          (1 ∷ []) $ fsplit ! $
+          move ! (4 ∷ []) $ fsplit ! $ move ! (1 ∷ []) $ fsplit ! $ drop ! $ fsplit ! $ move ! (1 ∷ []) $ fsplit ! $
+          move ! (1 ∷ []) $ fsplit ! $
           -- [the list; true; the two; the store; the list's token; true; the second; the store's]
           keep ! (4 ∷ 8 ∷ 3 ∷ 2 ∷ 7 ∷ 0 ∷ 5 ∷ []) $
           enters ! C Λ (code least callee counter filler) args (
@@ -279,7 +285,8 @@ module _ (L : Listing) (P : Plain) {T : Type 0} (told : P .row .Denot → T) (co
           ) (λ bs. begins bs x-is y-is)
 
   -- ---- such a function is proved, with its callees as they are known
-  module _ (lists : (κ : Lft) (settings : Settings) (x : third sh .row κ .Denot) (y : fourth sh .row κ .Denot) (w : List ℕ)
+  module _ (lists : (κ : Lft) (settings : Settings) (x : third sh .row κ .Denot) (y : fourth sh .row κ .Denot)
+      (w : List ℕ)
       → Lists L count (outcome κ settings x y w)) (least : Known Least) (callee : Known (Evaluates L P told sh outcome))
       (counter : Known (Counts P (λ r. count (told r)))) (filler : Known (Fills R (L .wide) (L .of))) where
     abbrev whole : Fn

@@ -1,6 +1,6 @@
--- An evaluation that takes words in the place of a list of records: of a store, settings, two parameters that are handed
--- on to it, and the words. Its contract, and its call by a function that lends it the first entries of a local array and
--- hands on what it was itself lent.
+-- An evaluation that takes words in the place of a list of records: of a store, settings, two parameters that are
+-- handed on to it, and the words. Its contract, and its call by a function that lends it the first entries of a local
+-- array and hands on what it was itself lent.
 use mathlib.Core.Path.{_≡_, refl, sym, _∙_}
 use Prim.Native.Nat.{ℕ, suc, _≤_, _<_, _^_, min}
 use native.Mathlib.Omega.{arith}
@@ -52,9 +52,10 @@ pub record Left (T A B : Type 0) : Type 0 where
   pub entries : List A
   pub others : List B
 
--- what a call lists: as many entries as it counts, no more than there is room for, which are read back from their words;
--- more room than the most changes nothing
-pub record Lists (L : Listing) {T B : Type 0} (count : T → ℕ) (call : ℕ → Left T (L .records .row .Denot) B) : Type 0 where
+-- what a call lists: as many entries as it counts, no more than there is room for, which are read back from their
+-- words; more room than the most changes nothing
+pub record Lists (L : Listing) {T B : Type 0} (count : T → ℕ)
+    (call : ℕ → Left T (L .records .row .Denot) B) : Type 0 where
   pub counted : (room : ℕ) → count (call room .told) ≡ length (call room .entries)
   pub few : (room : ℕ) → length (call room .entries) ≤ room
   pub back : (room : ℕ) → map (L .of) (map (L .words) (call room .entries)) ≡ call room .entries
@@ -134,7 +135,8 @@ abbrev at-second : Handed → Param 3
 at-second X = handed 3 (plain (λ κs. X .row (κs .1 .0))) (λ κs d. X .val (κs .1 .0) d ∷ []) (λ κs. X .tells (κs .1 .0))
 
 abbrev store : Param 3
-store = handed 3 (mutSliceOf (0 ∷ []) tt (plain (λ κs. u64))) (λ κs. slice-vals) (λ κs. mut-slice-tells (named 0) (κs .0) u64)
+store = handed 3 (mutSliceOf (0 ∷ []) tt (plain (λ κs. u64))) (λ κs. slice-vals)
+    (λ κs. mut-slice-tells (named 0) (κs .0) u64)
 
 abbrev pub with-list : Shape → Param 3 → List (Param 3)
 with-list sh list = store ∷ value 3 SettingsOf ∷ at-second (third sh) ∷ at-second (fourth sh) ∷ list ∷ []
@@ -301,20 +303,32 @@ module _ (L : Listing) (P : Plain) {T : Type 0} (told : P .row .Denot → T) whe
     sharing (single t X) = (q₁, (q₂, (fullShare, tt)))
     sharing (paired X S σ) = (q₁, (fullShare, (q₂, tt)))
 
-    abbrev on : (sh : Shape) (outcome : Outcomes sh) (x : third sh .row κ₂ .Denot) (y : fourth sh .row κ₂ .Denot) (l ν : ℕ)
-        → GName → Denots (rows (Evaluates sh outcome) (for sh ν))
+    abbrev on : (sh : Shape) (outcome : Outcomes sh) (x : third sh .row κ₂ .Denot) (y : fourth sh .row κ₂ .Denot)
+        (l ν : ℕ) → GName → Denots (rows (Evaluates sh outcome) (for sh ν))
     on (single t X) outcome x y l ν δ = (xs, (settings, (x, (y, (slot (Entry (L .wide)) l δ (take j (blanks L)), tt)))))
-    on (paired X S σ) outcome x y l ν δ = (xs, (settings, (x, (slot (Entry (L .wide)) l δ (take j (blanks L)), (y, tt)))))
+    on (paired X S σ) outcome x y l ν δ = (
+      xs,
+      (
+        settings,
+        (
+          x,
+          (
+            slot (Entry (L .wide)) l δ (take j (blanks L)),
+            (y, tt),
+          ),
+        ),
+      ),
+    )
 
     module _ (C : Calls 𝓤 H) (Λ : Loops 𝓤 H) (fm : FmC 𝓤 H (W .laws) C) (callee : Name) (b : Body) (q : Post 𝓤 H) where
-      is-called : (sh : Shape) (outcome : Outcomes sh) (x : third sh .row κ₂ .Denot) (y : fourth sh .row κ₂ .Denot) (l : ℕ)
-          (E : Env 𝓤 H) (ops : List Operand) (d : Place) (Γ : List (Item 𝓤))
+      is-called : (sh : Shape) (outcome : Outcomes sh) (x : third sh .row κ₂ .Denot) (y : fourth sh .row κ₂ .Denot)
+          (l : ℕ) (E : Env 𝓤 H) (ops : List Operand) (d : Place) (Γ : List (Item 𝓤))
           → Triple 𝓤 (C callee) (Keeps (Evaluates sh outcome) _ 𝓤 H A)
           → ((ν : ℕ) (δ : GName) → Opds (Go {0}) W
           (raw (Asked (Evaluates sh outcome) 𝓤 H A (for sh ν) (sharing sh) (on sh outcome x y l ν δ))
           ∷ ‵ (Kept (Entry (L .wide)) l j (blanks L) ν δ) ∷ Γ) E ops
-          (flat (rows (Evaluates sh outcome) (for sh ν)) (spelt (Evaluates sh outcome) (for sh ν) (on sh outcome x y l ν δ))))
-          → ((s : Said κ₂ settings (xs .now) j sh outcome x y)
+          (flat (rows (Evaluates sh outcome) (for sh ν)) (spelt (Evaluates sh outcome) (for sh ν)
+          (on sh outcome x y l ν δ)))) → ((s : Said κ₂ settings (xs .now) j sh outcome x y)
           → Sq W (‵ (row (Entry (L .wide)) fullShare (s .ws ++ without j (blanks L)) l 0)
           ∷ Gone 𝓤 κ₁ κ₂ q₁ q₂ xs sh x y (s .zs) (s .l₃) (s .l₄) ++ Γ) (lands C Λ E d (P .val (s .answer)) b q))
           → Sq W (‵ (row (Entry (L .wide)) fullShare (blanks L) l 0) ∷ Owned 𝓤 κ₁ κ₂ q₁ q₂ xs sh x y ++ Γ)
@@ -332,8 +346,8 @@ module _ (L : Listing) (P : Plain) {T : Type 0} (told : P .row .Denot → T) whe
           fsplit ! $ fsplit ! $ move ! (1 ∷ []) $ feqL ! (λ as-long. move ! (1 ∷ []) $ drop ! $
           -- [the words' last; of the fourth, the third, the store; the tokens; what is kept; …]
           move ! (4 ∷ []) $ split ! $ move ! (1 ∷ []) $ split ! $ move ! (1 ∷ []) $ split ! $ move ! (4 ∷ 0 ∷ 8 ∷ []) $
-          part-back (Entry (L .wide)) l ! tt j (blanks L) (zs .1 .1 .1 .1 .0) (as-long ∙ long) $ move ! (1 ∷ []) $ drop ! $
-          go (record {
+          part-back (Entry (L .wide)) l ! tt j (blanks L) (zs .1 .1 .1 .1 .0) (as-long ∙ long) $ move ! (1 ∷ []) $
+          drop ! $ go (record {
             answer = r;
             is = is;
             zs = zs .0;
@@ -366,12 +380,13 @@ module _ (L : Listing) (P : Plain) {T : Type 0} (told : P .row .Denot → T) whe
             did = e;
           }))))
 
-      -- the statements before it, too; v₅ is the list, v₉ and v₁₀ are what other locals hold, i₁ and i₂ what else is had
+      -- the statements before it, too; v₅ is the list, v₉ and v₁₀ are in other locals, i₁ and i₂ are what else is had
       module _ (fits₁ : Room u64 (length (xs .now))) (i₁ i₂ : Item 𝓤) (v₅ v₉ v₁₀ : Val) where
         -- the locals, with the answer and what is lent
-        abbrev pub before : (sh : Shape) (x : third sh .row κ₂ .Denot) (y : fourth sh .row κ₂ .Denot) → Blocks (locals L P sh)
-            → Cell → List Cell → List (Item 𝓤)
-        before sh x y bs c cs = i₁ ∷ i₂ ∷ cells 𝓤 H (envOf (locals L P sh) bs) (empty ∷ full s₁ ∷ full (SettingsOf .val settings)
+        abbrev pub before : (sh : Shape) (x : third sh .row κ₂ .Denot) (y : fourth sh .row κ₂ .Denot)
+            → Blocks (locals L P sh) → Cell → List Cell → List (Item 𝓤)
+        before sh x y bs c cs = i₁ ∷ i₂ ∷ cells 𝓤 H (envOf (locals L P sh) bs)
+            (empty ∷ full s₁ ∷ full (SettingsOf .val settings)
             ∷ full (third sh .val κ₂ x) ∷ full (fourth sh .val κ₂ y) ∷ full v₅ ∷ away ∷ full (vint w64 j) ∷ c ∷ full v₉
             ∷ full v₁₀ ∷ cs)
 

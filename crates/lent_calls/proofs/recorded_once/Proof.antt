@@ -50,11 +50,14 @@ module _ {M : Type 1} (𝓤 : URA M) (H : Heap 𝓤) (A : Atoms 𝓤) (W : Given
 
   exits : (r : PrintPath) → Stands PathOf r → ent 𝓤 (emp 𝓤) (Post (PathOf .val r))
   exits r is =
-      qed W [] ∵ nothing ! $ nothing ! $ fjoin ! $ nothing ! $ fjoin ! $ nothing ! $ fjoin ! $ nothing ! $ fjoin ! $ nothing ! $
-      by ! (ends Once 𝓤 H A tt tt (h, (n, (prev, (price, tt)))) W r is (tt, (tt, (tt, (tt, tt)))) (tt, (tt, (tt, (tt, tt)))) tt)
+      qed W [] ∵ nothing ! $ nothing ! $ fjoin ! $ nothing ! $ fjoin ! $ nothing ! $ fjoin ! $ nothing ! $ fjoin ! $
+      nothing ! $
+      by ! (ends Once 𝓤 H A tt tt (h, (n, (prev, (price, tt)))) W r is (tt, (tt, (tt, (tt, tt))))
+      (tt, (tt, (tt, (tt, tt)))) tt)
 
   walk : (C : Calls 𝓤 H) (Λ : Loops 𝓤 H) → FmC 𝓤 H (W .laws) C → Triple 𝓤 (C callee-def.name) (Keeps Records M 𝓤 H A)
-      → Sq W [] (prop (WpFn 𝓤 H C Λ code.function (PathOf .val h ∷ vint w64 n ∷ LastOf .val prev ∷ PriceOf .val price ∷ []) Post))
+      → Sq W [] (prop (WpFn 𝓤 H C Λ code.function (PathOf .val h ∷ vint w64 n ∷ LastOf .val prev ∷ PriceOf .val price
+      ∷ []) Post))
   walk C Λ fm known =
       enters ! C Λ code.function _ (
         PathOf .typed 𝓤 H A W h _ (are .0),

@@ -53,13 +53,15 @@ MovesOf = array MovedOf 3 (λ M 𝓤 H A W. lawful moved-type.the-type moved-law
 abbrev Segments : Form
 Segments = record {
   lifetimes = 3;
-  params = lent 3 0 tt u64 ∷ value 3 SettingsOf ∷ value 3 PrintsOf ∷ lent 3 1 tt (ElectedOf .row) ∷ lent 3 2 tt (MovedOf .row) ∷ [];
+  params = lent 3 0 tt u64 ∷ value 3 SettingsOf ∷ value 3 PrintsOf ∷ lent 3 1 tt (ElectedOf .row) ∷ lent 3 2 tt
+      (MovedOf .row) ∷ [];
   result = EvaluatedOf;
   asks = λ κs a. [];
   tells = λ κs a r e.
-      let o : SegmentOutcome = segmentCall (a .1 .0) (a .1 .1 .0) (a .0 .now) (length (a .1 .1 .1 .0 .now)) (length (a .1 .1 .1 .1 .0 .now)) in
-      (toldCounts r ≡ o .answer) ∷ (e .0 .now ≡ o .words) ∷ (e .1 .1 .1 .0 .now ≡ written (o .elected) (a .1 .1 .1 .0 .now))
-      ∷ (e .1 .1 .1 .1 .0 .now ≡ written (o .moved) (a .1 .1 .1 .1 .0 .now)) ∷ [];
+      let o : SegmentOutcome = segmentCall (a .1 .0) (a .1 .1 .0) (a .0 .now) (length (a .1 .1 .1 .0 .now))
+      (length (a .1 .1 .1 .1 .0 .now)) in
+      (toldCounts r ≡ o .answer) ∷ (e .0 .now ≡ o .words) ∷ (e .1 .1 .1 .0 .now ≡ written (o .elected)
+      (a .1 .1 .1 .0 .now)) ∷ (e .1 .1 .1 .1 .0 .now ≡ written (o .moved) (a .1 .1 .1 .1 .0 .now)) ∷ [];
 }
 
 abbrev segment : Known Segments
@@ -94,8 +96,8 @@ module _ {M : Type 1} (𝓤 : URA M) (H : Heap 𝓤) (A : Atoms 𝓤) (W : Given
       → ent 𝓤 (⋆ 𝓤 H A (‵ (flft κ q) ∷ ‵ (finally u64 (xs .name) zs) ∷ [])) (Post vunit)
   exits zs as-long =
       qed W (‵ (flft κ q) ∷ ‵ (finally u64 (xs .name) zs) ∷ []) ∵ nothing ! $ nothing ! $ fjoin ! $ nothing ! $ fjoin ! $
-      nothing ! $ fjoin ! $ nothing ! $ fjoin ! $ move ! (2 ∷ 0 ∷ []) $ fjoin ! $ nothing ! $ move ! (2 ∷ 0 ∷ []) $ join ! $
-      by ! (ends Once 𝓤 H A (κ, tt) (q, tt) (xs, (settings, (prints, (es, (ms, tt))))) W tt refl
+      nothing ! $ fjoin ! $ nothing ! $ fjoin ! $ move ! (2 ∷ 0 ∷ []) $ fjoin ! $ nothing ! $ move ! (2 ∷ 0 ∷ []) $
+      join ! $ by ! (ends Once 𝓤 H A (κ, tt) (q, tt) (xs, (settings, (prints, (es, (ms, tt))))) W tt refl
       (zs, (tt, (tt, (tt, (tt, tt))))) (as-long, (tt, (tt, (tt, (tt, tt))))) tt)
 
   module _ (C : Calls 𝓤 H) (Λ : Loops 𝓤 H) (fm : FmC 𝓤 H (W .laws) C)
@@ -112,48 +114,68 @@ module _ {M : Type 1} (𝓤 : URA M) (H : Heap 𝓤) (A : Atoms 𝓤) (W : Given
       l′ = bs .1 .1 .1 .1 .1 .1 .1 .0
 
       body : Sq W (‵ (MutSlice (named 0) κ u64 .own xs (s ∷ [])) ∷ ‵ (flft κ q) ∷ cells 𝓤 H En (empty ∷ full s
-          ∷ full (SettingsOf .val settings) ∷ full (PrintsOf .val prints) ∷ full (ElectionsOf .val es) ∷ full (MovesOf .val ms) ∷ []))
-          (runs C Λ En text.t-1 (atRet En Post))
+          ∷ full (SettingsOf .val settings) ∷ full (PrintsOf .val prints) ∷ full (ElectionsOf .val es)
+          ∷ full (MovesOf .val ms) ∷ [])) (runs C Λ En text.t-1 (atRet En Post))
       body =
-          assigns ! (of-opd ! (reads ! 6 refl)) (from ! (stop !)) (sets ! 8 refl (ElectionsOf .typed 𝓤 H A W es _ (are .1 .1 .0))) $
-          assigns ! (of-opd ! (reads ! 7 refl)) (from ! (stop !)) (sets ! 9 refl (MovesOf .typed 𝓤 H A W ms _ (are .1 .1 .1 .0))) $
+          assigns ! (of-opd ! (reads ! 6 refl)) (from ! (stop !)) (sets ! 8 refl
+          (ElectionsOf .typed 𝓤 H A W es _ (are .1 .1 .0))) $
+          assigns ! (of-opd ! (reads ! 7 refl)) (from ! (stop !)) (sets ! 9 refl
+          (MovesOf .typed 𝓤 H A W ms _ (are .1 .1 .1 .0))) $
           relends ! 2 1 9 refl refl refl (tt, tt) refl refl refl (tt, (tt, (record { fits = fits .0 }, tt))) $
           points ! 2 6 11 refl (tt, tt) refl (lit ! tt) refl (tt, (tt, (record { fits = lit< tt }, tt))) $
           points ! 2 7 13 refl (tt, tt) refl (lit ! tt) refl (tt, (tt, (record { fits = lit< tt }, tt))) $
-          rewrite ! 14 (λ (c : ℕ). cellAt 𝓤 H En 12 (full (sliceVal (l, 0) c))) (sym (long ElectedOf 2 es (are .1 .1 .0))) refl $
-          rewrite ! 16 (λ (c : ℕ). cellAt 𝓤 H En 14 (full (sliceVal (l′, 0) c))) (sym (long MovedOf 3 ms (are .1 .1 .1 .0))) refl $
+          rewrite ! 14 (λ (c : ℕ). cellAt 𝓤 H En 12 (full (sliceVal (l, 0) c)))
+          (sym (long ElectedOf 2 es (are .1 .1 .0))) refl $
+          rewrite ! 16 (λ (c : ℕ). cellAt 𝓤 H En 14 (full (sliceVal (l′, 0) c)))
+          (sym (long MovedOf 3 ms (are .1 .1 .1 .0))) refl $
           takes ! 8 refl $ lends-array ElectedOf tt 2 l es (are .1 .1 .0) ! tt (named 1) (lit< tt, lit< tt) (λ ν γ.
           takes ! 12 refl $ lends-array MovedOf tt 3 l′ ms (are .1 .1 .1 .0) ! tt (named 2) (lit< tt, lit< tt) (λ μ δ.
-          -- [the moved; their token; what is kept; the elected; their token; what is kept; the store; its token; the locals (8)]
-          nothing ! $ move ! (1 ∷ 0 ∷ []) $ fjoin ! $ move ! (3 ∷ 0 ∷ []) $ fjoin ! $ has PrintsOf ! prints (are .1 .0) $ fjoin ! $
+          -- [the moved; their token; what is kept; the elected; their token; what is kept; the store; its token; …]
+          nothing ! $ move ! (1 ∷ 0 ∷ []) $ fjoin ! $ move ! (3 ∷ 0 ∷ []) $ fjoin ! $
+          has PrintsOf ! prints (are .1 .0) $ fjoin ! $
           has SettingsOf ! settings (are .0) $ fjoin ! $ move ! (5 ∷ 0 ∷ []) $ fjoin ! $
-          -- [what the arguments own; the moved's token; what is kept; the elected's; what is kept; the store's; the locals (6)]
+          -- [what the arguments own; the moved's token; what is kept; the elected's; what is kept; the store's; …]
           nothing ! $ move ! (2 ∷ 0 ∷ []) $ join ! $ move ! (3 ∷ 0 ∷ []) $ join ! $ move ! (4 ∷ 0 ∷ []) $ join ! $
-          calls Segments ! fm known (κ, (ν ∷ [], (μ ∷ [], tt))) (q, (fullShare, (fullShare, tt)))
-          (xs, (settings, (prints, (slot (ElectedOf .row) l γ (take 2 es), (slot (MovedOf .row) l′ δ (take 3 ms), tt))))) tt
+          calls Segments ! fm known (κ, (ν ∷ [], (μ ∷ [], tt))) (q, (fullShare, (fullShare, tt))) (
+            xs,
+            (
+              settings,
+              (
+                prints,
+                (
+                  slot (ElectedOf .row) l γ (take 2 es),
+                  (slot (MovedOf .row) l′ δ (take 3 ms), tt),
+                ),
+              ),
+            ),
+          ) tt
           -- in the call: [what it asks; what is kept of the moved, of the elected; the locals (3)]
           (and-then ! (reads ! 13 refl) (and-then ! (reads ! 5 refl)
-          (and-then ! (reads ! 6 refl) (and-then ! (reads ! 15 refl) (and-then ! (reads ! 17 refl) (no-more !)))))) (λ r zs is e.
+          (and-then ! (reads ! 6 refl) (and-then ! (reads ! 15 refl) (and-then ! (reads ! 17 refl) (no-more !))))))
+          (λ r zs is e.
           let es′ : List Elected = zs .1 .1 .1 .0 ++ without 2 es in
           let ms′ : List Moved = zs .1 .1 .1 .1 .0 ++ without 3 ms in
-          fsplit ! $ fsplit ! $ move ! (1 ∷ []) $ feqL ! (λ same. move ! (1 ∷ []) $ fsplit ! $ drop ! $ fsplit ! $ drop ! $
-          fsplit ! $ fsplit ! $ move ! (1 ∷ []) $ feqL ! (λ same-e.
+          fsplit ! $ fsplit ! $ move ! (1 ∷ []) $ feqL ! (λ same. move ! (1 ∷ []) $ fsplit ! $ drop ! $ fsplit ! $
+          drop ! $ fsplit ! $ fsplit ! $ move ! (1 ∷ []) $ feqL ! (λ same-e.
           move ! (1 ∷ []) $ fsplit ! $ fsplit ! $ move ! (1 ∷ []) $ feqL ! (λ same-m.
-          -- [the moved's last list; true; the elected's; the store's; the tokens; what is kept of the moved, of the elected; …]
+          -- [the moved's last list; true; the elected's; the store's; the tokens; what is kept of both; …]
           move ! (4 ∷ []) $ split ! $ move ! (1 ∷ []) $ split ! $ move ! (1 ∷ []) $ split ! $ move ! (4 ∷ 0 ∷ 8 ∷ []) $
-          array-home MovedOf tt 3 l′ ms (are .1 .1 .1 .0) ! tt (zs .1 .1 .1 .1 .0) same-m (λ home′. move ! (5 ∷ 2 ∷ 7 ∷ []) $
+          array-home MovedOf tt 3 l′ ms (are .1 .1 .1 .0) ! tt (zs .1 .1 .1 .1 .0) same-m
+          (λ home′. move ! (5 ∷ 2 ∷ 7 ∷ []) $
           array-home ElectedOf tt 2 l es (are .1 .1 .0) ! tt (zs .1 .1 .1 .0) same-e (λ home.
           -- [_6; _7; true; the store's token; true; its last list; the locals (6)]
           move ! (2 ∷ []) $ drop ! $ move ! (3 ∷ []) $ drop ! $ puts ! 9 _ refl $ puts ! 9 _ refl $
           land ! (from ! (stop !)) (sets ! 10 refl (EvaluatedOf .typed 𝓤 H A W r _ is)) $
-          assigns ! (of-opd ! (reads ! 8 refl)) (from ! (stop !)) (sets ! 18 refl (ElectionsOf .typed 𝓤 H A W es′ _ home)) $
+          assigns ! (of-opd ! (reads ! 8 refl)) (from ! (stop !)) (sets ! 18 refl
+          (ElectionsOf .typed 𝓤 H A W es′ _ home)) $
           assigns ! (of-opd ! (reads ! 9 refl)) (from ! (stop !)) (sets ! 19 refl (MovesOf .typed 𝓤 H A W ms′ _ home′)) $
           computes (EvaluatedOf ∷ ElectionsOf ∷ MovesOf ∷ []) unit (λ a r. []) ! fm prints-known (r, (es′, (ms′, tt)))
           (is, (home, (home′, tt)))
-          (and-then ! (reads ! 11 refl) (and-then ! (reads ! 19 refl) (and-then ! (reads ! 20 refl) (no-more !)))) (λ u u-is _.
-          land ! (from ! (stop !)) (sets ! 17 refl (unit .typed 𝓤 H A W u _ u-is)) $
+          (and-then ! (reads ! 11 refl) (and-then ! (reads ! 19 refl) (and-then ! (reads ! 20 refl) (no-more !))))
+          (λ u u-is _. land ! (from ! (stop !)) (sets ! 17 refl (unit .typed 𝓤 H A W u _ u-is)) $
           assigns ! (of-opd ! (unit-lit !)) (from ! (stop !)) (sets ! 2 refl (tt, tt)) $
-          leaves ! 2 (full _ ∷ full _ ∷ full _ ∷ full _ ∷ full _ ∷ full _ ∷ full _ ∷ full _ ∷ full _ ∷ full _ ∷ full _ ∷ full _ ∷ full _
+          leaves ! 2 (full _ ∷ full _ ∷ full _ ∷ full _ ∷ full _ ∷ full _ ∷ full _ ∷ full _ ∷ full _ ∷ full _ ∷ full _
+          ∷ full _ ∷ full _
           ∷ full _ ∷ full _ ∷ full _ ∷ full _ ∷ full _ ∷ []) refl tt refl $ by ! (exits (zs .0) same))))))))))
 
     walk : Sq W ((‵ (flft κ q) ⊛ ‵ ftrue) ∷ ‵ (Owned Once (κ, tt) (xs, (settings, (prints, (es, (ms, tt)))))) ∷ [])
@@ -176,6 +198,6 @@ unfolding code.routine
 segment-once-spec 𝓤 H 𝓜 𝓖 𝓡 =
     let W : Given 𝓤 H (𝓖 .A) = givenOf 𝓤 H 𝓜 𝓖 in
     proved Once 𝓤 H 𝓜 𝓖 𝓡 code.function code.env #segment-once (code.unfolded 𝓤 H 𝓜 𝓡) (λ 𝓣 known κs qs a are ok.
-    walk 𝓤 H (𝓖 .A) W (κs .0) (qs .0) (a .0) (a .1 .0) (a .1 .1 .0) (a .1 .1 .1 .0) (a .1 .1 .1 .1 .0) (are .1) (𝓣 .C) (𝓣 .Λ)
-    (fmOf 𝓤 H (W .laws) 𝓣) (known Segments segment code.calls-lent-segment·segment)
+    walk 𝓤 H (𝓖 .A) W (κs .0) (qs .0) (a .0) (a .1 .0) (a .1 .1 .0) (a .1 .1 .1 .0) (a .1 .1 .1 .1 .0) (are .1) (𝓣 .C)
+    (𝓣 .Λ) (fmOf 𝓤 H (W .laws) 𝓣) (known Segments segment code.calls-lent-segment·segment)
     (known Prints print code.calls-lent-calls·print-segment) (are .0 .0 .1))

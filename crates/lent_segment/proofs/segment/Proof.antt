@@ -1,5 +1,5 @@
--- `segment` meets its contract: its code is that of an evaluation with a lent list, the moved, over `segment_moving`, to
--- which the list of the elected is handed on.
+-- `segment` meets its contract: its code is that of an evaluation with a lent list, the moved, over `segment_moving`,
+-- to which the list of the elected is handed on.
 use mathlib.Core.List.{List}
 use lib.ListN.{length}
 use Prim.Native.Nat.{ℕ}
