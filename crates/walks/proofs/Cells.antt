@@ -1,23 +1,39 @@
 -- The locals of a function that is walked, one item each, in their order behind what else is had: a local is read, set,
 -- taken out and put back by its position; they are allocated where the function is entered, and freed where it returns.
 use mathlib.Core.Path.{_≡_, refl, sym, subst}
-use Prim.Native.Nat.{ℕ}
+use Prim.Native.Nat.{ℕ, _<_, _^_}
 use mathlib.Core.List.{List, [], _∷_, _++_}
 use lib.Dec.{T as Holds}
 use lib.ListN.{getD, take, drop, take-append-drop}
 use mir.Syntax.{place}
 use types.Kit.{allocs, passes, params′, del, pull, fill, push, pop, ⊢++, ++⊢, assume, each}
-use Rattle.walks.proofs.WalkSteps.{Opd, URA, fullShare, Ty, Local, Fn, Body, local, copy, return, Val, hasTy}
-use Rattle.walks.proofs.WalkSteps.{WT, SProp, ent, sep, wand, emp, id⊢, via, comm∗, assoc∗, assoc′, monoL}
-use Rattle.walks.proofs.WalkSteps.{monoR, guardI, snd∗, Share, fat, froom, fdies, Heap, Env, Calls, Loops}
-use Rattle.walks.proofs.WalkSteps.{WpFn, release, noLocal, spotOf, Atoms, Given, Item, Goal, Seq, Step, step}
-use Rattle.walks.proofs.WalkSteps.{prop, runs, atRet, ‵, raw, _⊛_, mean, ⋆, nth, put, _$_, _∵_, !, qed, by}
-use Rattle.walks.proofs.WalkSteps.{move, use0, use1, use2, split, join, frame, done, Reads, Writes, stop, from}
-use Rattle.walks.proofs.WalkSteps.{load, returns, enter, alloc1, alloc0, params1, pass1, pass0, Part, look-in}
+use Rattle.walks.proofs.WalkSteps.{Fits as Small, Opd, URA, fullShare, Ty, Local, Fn, Body, local, copy}
+use Rattle.walks.proofs.WalkSteps.{return, Val, hasTy, WT, SProp, ent, sep, wand, emp, id⊢, via, comm∗, assoc∗}
+use Rattle.walks.proofs.WalkSteps.{assoc′, monoL, monoR, guardI, snd∗, Share, fat, froom, fdies, Heap, Env}
+use Rattle.walks.proofs.WalkSteps.{Calls, Loops, WpFn, release, noLocal, spotOf, Atoms, Given, Item, Goal, Seq}
+use Rattle.walks.proofs.WalkSteps.{Step, step, prop, runs, atRet, ‵, raw, _⊛_, mean, ⋆, nth, put, _$_, _∵_, ! }
+use Rattle.walks.proofs.WalkSteps.{qed, by, move, use0, use1, use2, split, join, frame, done, Reads, Writes}
+use Rattle.walks.proofs.WalkSteps.{stop, from, load, returns, enter, alloc1, alloc0, params1, pass1, pass0}
+use Rattle.walks.proofs.WalkSteps.{Part, look-in, w64, Denots}
 use Rattle.walks.proofs.Frame.{Cell, room, full, away}
+use Rattle.walks.proofs.Plain.{Plain, rows, Held}
 
 abbrev pub Typed : Ty → Val → Type 0
 Typed τ v = Holds (hasTy τ v) × WT v
+
+-- that a slice of c elements is of its type
+abbrev pub sliced : {c : ℕ} → c < 2 ^ 64 → Unit {0} × (Unit {0} × (Small w64 c × Unit {0}))
+sliced f = (tt, (tt, (record { fits = f }, tt)))
+
+-- that plain values are of theirs
+abbrev pub Typeds : (Ps : List Plain) → Denots (rows Ps) → Type 0
+Typeds [] a = Unit {0}
+Typeds (P ∷ Ps) a = Typed (P .mir) (P .val (a .0)) × Typeds Ps (a .1)
+
+pub typeds : {M : Type 1} (𝓤 : URA M) (H : Heap 𝓤) (A : Atoms 𝓤) → Given 𝓤 H A → (Ps : List Plain) (a : Denots (rows Ps))
+    → Held Ps a → Typeds Ps a
+typeds 𝓤 H A W [] a are = tt
+typeds 𝓤 H A W (P ∷ Ps) a are = (P .typed 𝓤 H A W (a .0) _ (are .0), typeds 𝓤 H A W Ps (a .1) (are .1))
 
 module _ {M : Type 1} (𝓤 : URA M) (H : Heap 𝓤) where
   -- a local's cell, and the right to free it

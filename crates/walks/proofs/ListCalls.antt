@@ -22,7 +22,8 @@ use Rattle.book.specs.Calls.{written}
 use Rattle.book.specs.declared.Settings.{Settings}
 use Rattle.walks.proofs.Buffers.{Entry, slot, blank-length, blankVal, zeros, zeroed, to-row, row-room}
 use Rattle.walks.proofs.Buffers.{lends-all, all-back}
-use Rattle.walks.proofs.Cells.{Blocks, envOf, cells, cellAt, held, reads, sets, takes, puts, enters, leaves}
+use Rattle.walks.proofs.Cells.{Typed, sliced, Blocks, envOf, cells, cellAt, held, reads}
+use Rattle.walks.proofs.Cells.{sets, takes, puts, enters, leaves}
 use Rattle.walks.proofs.Claims.{All, the-first, others-and}
 use Rattle.walks.proofs.Contracts.{Form, Known, Keeps, rows, ends, calls, Computes, computes}
 use Rattle.walks.proofs.Contracts as contracts
@@ -212,8 +213,8 @@ module _ (L : Listing) (P : Plain) {T : Type 0} (told : P .row .Denot → T) (co
               ++ ‵ Records ∷ ‵ (flft κ₃ q₃) ∷ cells 𝓤 H En (got empty away n []))
               (runs C Λ En (fills-list counter filler) (atRet En Post))
           writes =
-              relends ! 8 5 18 refl refl refl (tt, tt) refl refl refl (tt, (tt, (record { fits = fits₃ .0 }, tt))) $
-              points ! 8 6 20 refl (tt, tt) refl (L .most .reads !) refl (tt, (tt, (record { fits = L .fits .0 }, tt))) $
+              relends ! 8 5 18 refl refl refl (tt, tt) refl refl refl (sliced (fits₃ .0)) $
+              points ! 8 6 20 refl (tt, tt) refl (L .most .reads !) refl (sliced (L .fits .0)) $
               computes (P ∷ []) word (λ a r. (r ≡ count (told (a .0))) ∷ []) ! fm known₂ (s .answer, tt) (s .is, tt)
               (and-then ! (reads ! 17 refl) (no-more !)) (λ i i-is counted.
               land ! (from ! (stop !)) (store-in ! 18 (held !) (word .typed 𝓤 H A W i _ i-is)) $
@@ -273,16 +274,12 @@ module _ (L : Listing) (P : Plain) {T : Type 0} (told : P .row .Denot → T) (co
           move ! (1 ∷ []) $ fsplit ! $
           -- [the list; true; the two; the store; the list's token; true; the second; the store's]
           keep ! (4 ∷ 8 ∷ 3 ∷ 2 ∷ 7 ∷ 0 ∷ 5 ∷ []) $
-          enters ! C Λ (code least callee counter filler) args (
-            (tt, (tt, (record { fits = fits₁ .0 }, tt))),
-            (
-              SettingsOf .typed 𝓤 H A W settings _ settings-is,
-              (
-                third sh .typed 𝓤 H A W κ₂ x x-is,
-                (fourth sh .typed 𝓤 H A W κ₂ y y-is, ((tt, (tt, (record { fits = fits₃ .0 }, tt))), tt)),
-              ),
-            ),
-          ) (λ bs. begins bs x-is y-is)
+          let t₂ : Typed (SettingsOf .mir) (SettingsOf .val settings) =
+          SettingsOf .typed 𝓤 H A W settings _ settings-is in
+          let t₃ : Typed (third sh .mir) (third sh .val κ₂ x) = third sh .typed 𝓤 H A W κ₂ x x-is in
+          let t₄ : Typed (fourth sh .mir) (fourth sh .val κ₂ y) = fourth sh .typed 𝓤 H A W κ₂ y y-is in
+          enters ! C Λ (code least callee counter filler) args
+          (sliced (fits₁ .0), (t₂, (t₃, (t₄, (sliced (fits₃ .0), tt))))) (λ bs. begins bs x-is y-is)
 
   -- ---- such a function is proved, with its callees as they are known
   module _ (lists : (κ : Lft) (settings : Settings) (x : third sh .row κ .Denot) (y : fourth sh .row κ .Denot)

@@ -20,7 +20,7 @@ use Rattle.walks.proofs.WalkSteps.{slice-vals, typesAt}
 use Rattle.book.specs.Calls.{written}
 use Rattle.book.specs.declared.Settings.{Settings}
 use Rattle.walks.proofs.Buffers.{Entry, slot, Kept, blank, blank-length, room-below, lends-part, part-back}
-use Rattle.walks.proofs.Cells.{Typed, Blocks, envOf, cells, cellAt, reads, sets}
+use Rattle.walks.proofs.Cells.{sliced, Typed, Blocks, envOf, cells, cellAt, reads, sets}
 use Rattle.walks.proofs.Claims.{All}
 use Rattle.walks.proofs.Constants.{Most}
 use Rattle.walks.proofs.Contracts.{Form, Keeps, Asked, rows, spelt, calls}
@@ -88,7 +88,7 @@ numbers = record {
   mir = sliceTy (tyRef (named 1) imm (tyInt w64));
   val = λ κ x. sliceVal (x .ptr) (length (x .now));
   tells = λ κ. shr-slice-tells (named 1) κ u64;
-  typed = λ 𝓤 H A W κ x is. (tt, (tt, (record { fits = is .0 .1 .0 }, tt)));
+  typed = λ 𝓤 H A W κ x is. sliced (is .0 .1 .0);
 }
 
 abbrev pub list : RattleType → Handed
@@ -97,7 +97,7 @@ list S = record {
   mir = sliceTy (tyRef (named 1) mut (pointee (S .written)));
   val = λ κ x. sliceVal (x .ptr) (length (x .now));
   tells = λ κ. mut-slice-tells (named 1) κ S;
-  typed = λ 𝓤 H A W κ x is. (tt, (tt, (record { fits = is .0 .1 .0 }, tt)));
+  typed = λ 𝓤 H A W κ x is. sliced (is .0 .1 .0);
 }
 
 -- a plain value and words to be read, either first; or a plain value and another list, with its entries' MIR type,
@@ -303,22 +303,13 @@ module _ (L : Listing) (P : Plain) {T : Type 0} (told : P .row .Denot → T) whe
     sharing (single t X) = (q₁, (q₂, (fullShare, tt)))
     sharing (paired X S σ) = (q₁, (fullShare, (q₂, tt)))
 
+    abbrev lent-words : ℕ → GName → RefT (List (List ℕ))
+    lent-words l δ = slot (Entry (L .wide)) l δ (take j (blanks L))
+
     abbrev on : (sh : Shape) (outcome : Outcomes sh) (x : third sh .row κ₂ .Denot) (y : fourth sh .row κ₂ .Denot)
         (l ν : ℕ) → GName → Denots (rows (Evaluates sh outcome) (for sh ν))
-    on (single t X) outcome x y l ν δ = (xs, (settings, (x, (y, (slot (Entry (L .wide)) l δ (take j (blanks L)), tt)))))
-    on (paired X S σ) outcome x y l ν δ = (
-      xs,
-      (
-        settings,
-        (
-          x,
-          (
-            slot (Entry (L .wide)) l δ (take j (blanks L)),
-            (y, tt),
-          ),
-        ),
-      ),
-    )
+    on (single t X) outcome x y l ν δ = (xs, (settings, (x, (y, (lent-words l δ, tt)))))
+    on (paired X S σ) outcome x y l ν δ = (xs, (settings, (x, (lent-words l δ, (y, tt)))))
 
     module _ (C : Calls 𝓤 H) (Λ : Loops 𝓤 H) (fm : FmC 𝓤 H (W .laws) C) (callee : Name) (b : Body) (q : Post 𝓤 H) where
       is-called : (sh : Shape) (outcome : Outcomes sh) (x : third sh .row κ₂ .Denot) (y : fourth sh .row κ₂ .Denot)
@@ -407,28 +398,28 @@ module _ (L : Listing) (P : Plain) {T : Type 0} (told : P .row .Denot → T) whe
             ∷ Owned 𝓤 κ₁ κ₂ q₁ q₂ xs sh x y ++ before sh x y bs empty [])
             (runs C Λ (envOf (locals L P sh) bs) (evaluates-to sh callee b) q)
         evaluates (single first X) outcome x y bs x-is y-is known go =
-            relends ! 8 1 11 refl refl refl (tt, tt) refl refl refl (tt, (tt, (record { fits = fits₁ .0 }, tt))) $
-            relends ! 8 4 13 refl refl refl (tt, tt) refl refl refl (tt, (tt, (record { fits = y-is .0 .1 .0 }, tt))) $
-            points ! 8 6 15 refl (tt, tt) refl (reads ! 15 refl) refl (tt, (tt, (record { fits = j-fits }, tt))) $
+            relends ! 8 1 11 refl refl refl (tt, tt) refl refl refl (sliced (fits₁ .0)) $
+            relends ! 8 4 13 refl refl refl (tt, tt) refl refl refl (sliced (y-is .0 .1 .0)) $
+            points ! 8 6 15 refl (tt, tt) refl (reads ! 15 refl) refl (sliced j-fits) $
             rewrite ! 24 (lent-at (single first X) bs 16) (sym long) refl $
             is-called (single first X) outcome x y _ _ _ _ _ known (λ ν δ. and-then ! (reads ! 16 refl)
             (and-then ! (reads ! 6 refl) (and-then ! (reads ! 7 refl)
             (and-then ! (reads ! 18 refl) (and-then ! (reads ! 20 refl) (no-more !)))))) (λ s.
             land ! (from ! (stop !)) (sets ! 16 refl (P .typed 𝓤 H A W (s .answer) _ (s .is))) $ go s _ _ _ _ _ _)
         evaluates (single second X) outcome x y bs x-is y-is known go =
-            relends ! 8 1 11 refl refl refl (tt, tt) refl refl refl (tt, (tt, (record { fits = fits₁ .0 }, tt))) $
-            relends ! 8 3 13 refl refl refl (tt, tt) refl refl refl (tt, (tt, (record { fits = x-is .0 .1 .0 }, tt))) $
-            points ! 8 6 15 refl (tt, tt) refl (reads ! 15 refl) refl (tt, (tt, (record { fits = j-fits }, tt))) $
+            relends ! 8 1 11 refl refl refl (tt, tt) refl refl refl (sliced (fits₁ .0)) $
+            relends ! 8 3 13 refl refl refl (tt, tt) refl refl refl (sliced (x-is .0 .1 .0)) $
+            points ! 8 6 15 refl (tt, tt) refl (reads ! 15 refl) refl (sliced j-fits) $
             rewrite ! 24 (lent-at (single second X) bs 16) (sym long) refl $
             is-called (single second X) outcome x y _ _ _ _ _ known (λ ν δ. and-then ! (reads ! 16 refl)
             (and-then ! (reads ! 6 refl) (and-then ! (reads ! 18 refl)
             (and-then ! (reads ! 8 refl) (and-then ! (reads ! 20 refl) (no-more !)))))) (λ s.
             land ! (from ! (stop !)) (sets ! 16 refl (P .typed 𝓤 H A W (s .answer) _ (s .is))) $ go s _ _ _ _ _ _)
         evaluates (paired X S σ) outcome x y bs x-is y-is known go =
-            relends ! 8 1 11 refl refl refl (tt, tt) refl refl refl (tt, (tt, (record { fits = fits₁ .0 }, tt))) $
-            points ! 8 6 13 refl (tt, tt) refl (reads ! 15 refl) refl (tt, (tt, (record { fits = j-fits }, tt))) $
+            relends ! 8 1 11 refl refl refl (tt, tt) refl refl refl (sliced (fits₁ .0)) $
+            points ! 8 6 13 refl (tt, tt) refl (reads ! 15 refl) refl (sliced j-fits) $
             rewrite ! 22 (lent-at (paired X S σ) bs 14) (sym long) refl $
-            relends ! 8 4 15 refl refl refl (tt, tt) refl refl refl (tt, (tt, (record { fits = y-is .0 .1 .0 }, tt))) $
+            relends ! 8 4 15 refl refl refl (tt, tt) refl refl refl (sliced (y-is .0 .1 .0)) $
             is-called (paired X S σ) outcome x y _ _ _ _ _ known (λ ν δ. and-then ! (reads ! 16 refl)
             (and-then ! (reads ! 6 refl) (and-then ! (reads ! 7 refl)
             (and-then ! (reads ! 18 refl) (and-then ! (reads ! 20 refl) (no-more !)))))) (λ s.

@@ -10,7 +10,7 @@ use Rattle.book.specs.declared.LastPrice.{LastPrice}
 use Rattle.book.specs.declared.PrintPath.{PrintPath}
 use Rattle.book.specs.Path.{recorded}
 use Rattle.pricelevel.specs.declared.Price.{Price}
-use Rattle.walks.proofs.Cells.{reads, sets, takes, puts, enters, leaves}
+use Rattle.walks.proofs.Cells.{typeds, reads, sets, takes, puts, enters, leaves}
 use Rattle.walks.proofs.Frame.{full}
 use Rattle.walks.proofs.Contracts.{Form, Known, Keeps, ends, calls, proved, Computes}
 use Rattle.walks.proofs.Contracts as contracts
@@ -59,13 +59,8 @@ module _ {M : Type 1} (𝓤 : URA M) (H : Heap 𝓤) (A : Atoms 𝓤) (W : Given
       → Sq W [] (prop (WpFn 𝓤 H C Λ code.function (PathOf .val h ∷ vint w64 n ∷ LastOf .val prev ∷ PriceOf .val price
       ∷ []) Post))
   walk C Λ fm known =
-      enters ! C Λ code.function _ (
-        PathOf .typed 𝓤 H A W h _ (are .0),
-        (
-          word .typed 𝓤 H A W n _ (are .1 .0),
-          (LastOf .typed 𝓤 H A W prev _ (are .1 .1 .0), (PriceOf .typed 𝓤 H A W price _ (are .1 .1 .1 .0), tt)),
-        ),
-      ) (λ bs.
+      enters ! C Λ code.function _
+      (typeds 𝓤 H A W (PathOf ∷ word ∷ LastOf ∷ PriceOf ∷ []) (h, (n, (prev, (price, tt)))) are) (λ bs.
       let l : ℕ = bs .1 .1 .1 .1 .1 .0 in
       assigns ! (of-opd ! (reads ! 1 refl)) (from ! (stop !)) (sets ! 5 refl (PathOf .typed 𝓤 H A W h _ (are .0))) $
       assigns ! (addr ! (from ! (stop !))) (from ! (stop !)) (sets ! 7 refl (tt, tt)) $

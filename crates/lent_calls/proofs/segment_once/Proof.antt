@@ -22,7 +22,7 @@ use Rattle.book.proofs.Elected.Laws as elected-laws
 use Rattle.book.proofs.Moved as moved-type
 use Rattle.book.proofs.Moved.Laws as moved-laws
 use Rattle.walks.proofs.Buffers.{slot}
-use Rattle.walks.proofs.Cells.{Blocks, envOf, cells, cellAt, reads, sets, takes, puts, enters, leaves}
+use Rattle.walks.proofs.Cells.{typeds, sliced, Blocks, envOf, cells, cellAt, reads, sets, takes, puts, enters, leaves}
 use Rattle.walks.proofs.Contracts.{Form, Known, Keeps, Owned, ends, calls, proved, Computes, computes}
 use Rattle.walks.proofs.Contracts as contracts
 use Rattle.walks.proofs.Frame.{room as empty, full}
@@ -121,34 +121,25 @@ module _ {M : Type 1} (𝓤 : URA M) (H : Heap 𝓤) (A : Atoms 𝓤) (W : Given
           (ElectionsOf .typed 𝓤 H A W es _ (are .1 .1 .0))) $
           assigns ! (of-opd ! (reads ! 7 refl)) (from ! (stop !)) (sets ! 9 refl
           (MovesOf .typed 𝓤 H A W ms _ (are .1 .1 .1 .0))) $
-          relends ! 2 1 9 refl refl refl (tt, tt) refl refl refl (tt, (tt, (record { fits = fits .0 }, tt))) $
-          points ! 2 6 11 refl (tt, tt) refl (lit ! tt) refl (tt, (tt, (record { fits = lit< tt }, tt))) $
-          points ! 2 7 13 refl (tt, tt) refl (lit ! tt) refl (tt, (tt, (record { fits = lit< tt }, tt))) $
+          relends ! 2 1 9 refl refl refl (tt, tt) refl refl refl (sliced (fits .0)) $
+          points ! 2 6 11 refl (tt, tt) refl (lit ! tt) refl (sliced (lit< tt)) $
+          points ! 2 7 13 refl (tt, tt) refl (lit ! tt) refl (sliced (lit< tt)) $
           rewrite ! 14 (λ (c : ℕ). cellAt 𝓤 H En 12 (full (sliceVal (l, 0) c)))
           (sym (long ElectedOf 2 es (are .1 .1 .0))) refl $
           rewrite ! 16 (λ (c : ℕ). cellAt 𝓤 H En 14 (full (sliceVal (l′, 0) c)))
           (sym (long MovedOf 3 ms (are .1 .1 .1 .0))) refl $
           takes ! 8 refl $ lends-array ElectedOf tt 2 l es (are .1 .1 .0) ! tt (named 1) (lit< tt, lit< tt) (λ ν γ.
           takes ! 12 refl $ lends-array MovedOf tt 3 l′ ms (are .1 .1 .1 .0) ! tt (named 2) (lit< tt, lit< tt) (λ μ δ.
+          let x : RefT (List Elected) = slot (ElectedOf .row) l γ (take 2 es) in
+          let y : RefT (List Moved) = slot (MovedOf .row) l′ δ (take 3 ms) in
           -- [the moved; their token; what is kept; the elected; their token; what is kept; the store; its token; …]
           nothing ! $ move ! (1 ∷ 0 ∷ []) $ fjoin ! $ move ! (3 ∷ 0 ∷ []) $ fjoin ! $
-          has PrintsOf ! prints (are .1 .0) $ fjoin ! $
-          has SettingsOf ! settings (are .0) $ fjoin ! $ move ! (5 ∷ 0 ∷ []) $ fjoin ! $
+          has PrintsOf ! prints (are .1 .0) $ fjoin ! $ has SettingsOf ! settings (are .0) $ fjoin ! $
+          move ! (5 ∷ 0 ∷ []) $ fjoin ! $
           -- [what the arguments own; the moved's token; what is kept; the elected's; what is kept; the store's; …]
           nothing ! $ move ! (2 ∷ 0 ∷ []) $ join ! $ move ! (3 ∷ 0 ∷ []) $ join ! $ move ! (4 ∷ 0 ∷ []) $ join ! $
-          calls Segments ! fm known (κ, (ν ∷ [], (μ ∷ [], tt))) (q, (fullShare, (fullShare, tt))) (
-            xs,
-            (
-              settings,
-              (
-                prints,
-                (
-                  slot (ElectedOf .row) l γ (take 2 es),
-                  (slot (MovedOf .row) l′ δ (take 3 ms), tt),
-                ),
-              ),
-            ),
-          ) tt
+          calls Segments ! fm known (κ, (ν ∷ [], (μ ∷ [], tt))) (q, (fullShare, (fullShare, tt)))
+          (xs, (settings, (prints, (x, (y, tt))))) tt
           -- in the call: [what it asks; what is kept of the moved, of the elected; the locals (3)]
           (and-then ! (reads ! 13 refl) (and-then ! (reads ! 5 refl)
           (and-then ! (reads ! 6 refl) (and-then ! (reads ! 15 refl) (and-then ! (reads ! 17 refl) (no-more !))))))
@@ -160,9 +151,8 @@ module _ {M : Type 1} (𝓤 : URA M) (H : Heap 𝓤) (A : Atoms 𝓤) (W : Given
           move ! (1 ∷ []) $ fsplit ! $ fsplit ! $ move ! (1 ∷ []) $ feqL ! (λ same-m.
           -- [the moved's last list; true; the elected's; the store's; the tokens; what is kept of both; …]
           move ! (4 ∷ []) $ split ! $ move ! (1 ∷ []) $ split ! $ move ! (1 ∷ []) $ split ! $ move ! (4 ∷ 0 ∷ 8 ∷ []) $
-          array-home MovedOf tt 3 l′ ms (are .1 .1 .1 .0) ! tt (zs .1 .1 .1 .1 .0) same-m
-          (λ home′. move ! (5 ∷ 2 ∷ 7 ∷ []) $
-          array-home ElectedOf tt 2 l es (are .1 .1 .0) ! tt (zs .1 .1 .1 .0) same-e (λ home.
+          array-home MovedOf tt 3 l′ ms (are .1 .1 .1 .0) ! tt (zs .1 .1 .1 .1 .0) same-m (λ home′.
+          move ! (5 ∷ 2 ∷ 7 ∷ []) $ array-home ElectedOf tt 2 l es (are .1 .1 .0) ! tt (zs .1 .1 .1 .0) same-e (λ home.
           -- [_6; _7; true; the store's token; true; its last list; the locals (6)]
           move ! (2 ∷ []) $ drop ! $ move ! (3 ∷ []) $ drop ! $ puts ! 9 _ refl $ puts ! 9 _ refl $
           land ! (from ! (stop !)) (sets ! 10 refl (EvaluatedOf .typed 𝓤 H A W r _ is)) $
@@ -172,25 +162,21 @@ module _ {M : Type 1} (𝓤 : URA M) (H : Heap 𝓤) (A : Atoms 𝓤) (W : Given
           computes (EvaluatedOf ∷ ElectionsOf ∷ MovesOf ∷ []) unit (λ a r. []) ! fm prints-known (r, (es′, (ms′, tt)))
           (is, (home, (home′, tt)))
           (and-then ! (reads ! 11 refl) (and-then ! (reads ! 19 refl) (and-then ! (reads ! 20 refl) (no-more !))))
-          (λ u u-is _. land ! (from ! (stop !)) (sets ! 17 refl (unit .typed 𝓤 H A W u _ u-is)) $
+          (λ u u-is _.
+          land ! (from ! (stop !)) (sets ! 17 refl (unit .typed 𝓤 H A W u _ u-is)) $
           assigns ! (of-opd ! (unit-lit !)) (from ! (stop !)) (sets ! 2 refl (tt, tt)) $
           leaves ! 2 (full _ ∷ full _ ∷ full _ ∷ full _ ∷ full _ ∷ full _ ∷ full _ ∷ full _ ∷ full _ ∷ full _ ∷ full _
-          ∷ full _ ∷ full _
-          ∷ full _ ∷ full _ ∷ full _ ∷ full _ ∷ full _ ∷ []) refl tt refl $ by ! (exits (zs .0) same))))))))))
+          ∷ full _ ∷ full _ ∷ full _ ∷ full _ ∷ full _ ∷ full _ ∷ full _ ∷ []) refl tt refl $
+          by ! (exits (zs .0) same))))))))))
 
     walk : Sq W ((‵ (flft κ q) ⊛ ‵ ftrue) ∷ ‵ (Owned Once (κ, tt) (xs, (settings, (prints, (es, (ms, tt)))))) ∷ [])
         (prop (WpFn 𝓤 H C Λ code.function (s ∷ SettingsOf .val settings ∷ PrintsOf .val prints ∷ ElectionsOf .val es
         ∷ MovesOf .val ms ∷ []) Post))
     walk =
         split ! $ move ! (2 ∷ []) $ fsplit ! $ keep ! (0 ∷ 2 ∷ []) $ enters ! C Λ code.function _ (
-          (tt, (tt, (record { fits = fits .0 }, tt))),
-          (
-            SettingsOf .typed 𝓤 H A W settings _ (are .0),
-            (
-              PrintsOf .typed 𝓤 H A W prints _ (are .1 .0),
-              (ElectionsOf .typed 𝓤 H A W es _ (are .1 .1 .0), (MovesOf .typed 𝓤 H A W ms _ (are .1 .1 .1 .0), tt)),
-            ),
-          ),
+          sliced (fits .0),
+          typeds 𝓤 H A W (SettingsOf ∷ PrintsOf ∷ ElectionsOf ∷ MovesOf ∷ [])
+              (settings, (prints, (es, (ms, tt)))) are,
         ) body
 
 pub segment-once-spec : {M : Type 1} → stated.statement M

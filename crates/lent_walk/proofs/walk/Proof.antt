@@ -45,6 +45,6 @@ callee = record { name = callee-def.name; routine = callee-def.routine; met = ca
 pub walk-spec : {M : Type 1} → stated.statement M
 unfolding code.routine
 walk-spec 𝓤 H 𝓜 𝓖 𝓡 =
-    proved elected EvaluatedOf toldCounts electedCount shape outcome lists least callee elected-count fill-elected 𝓤 H 𝓜 𝓖 𝓡
-    code.env #walk (code.unfolded 𝓤 H 𝓜 𝓡) code.calls-word-rooms·least code.calls-evaluate-walk·walk
+    proved elected EvaluatedOf toldCounts electedCount shape outcome lists least callee elected-count fill-elected 𝓤 H
+    𝓜 𝓖 𝓡 code.env #walk (code.unfolded 𝓤 H 𝓜 𝓡) code.calls-word-rooms·least code.calls-evaluate-walk·walk
     code.calls-word-rooms·elected-count code.calls-lent-lists·fill-elected
