@@ -1,3 +1,1 @@
-pub mod Listings
 pub mod Local
-pub mod Parts

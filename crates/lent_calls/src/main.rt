@@ -1,10 +1,8 @@
 // A program that runs the lent forms: a print is recorded on a lent path, and a segment fills lent lists of records. It
-// prints what they answer and the first entries. What a program needs beside goes through calls by value.
+// prints the path, what the segment answers, and the entries of both lists: those written, and later ones, which stay.
 use book::Elected;
 use book::EvaluationAnswer;
 use book::LastPrice;
-use book::MOST_MOVES;
-use book::MOST_RECORDS;
 use book::Moved;
 use book::PrintPath;
 use book::PrintSegment;
@@ -19,63 +17,64 @@ use stop_protection::Limit;
 use stop_protection::Protection;
 use stop_terms::StopTerms;
 use uuid::Uuid;
-ghost use Prim.Native.Nat.{_≤_, _*_};
-ghost use mathlib.Core.List.{_++_};
-ghost use mathlib.Core.Path.{_≡_};
-ghost use lib.ListN.{length, take as firsts, drop};
-ghost use Rattle.book.specs.Answers.{toldCounts};
-ghost use Rattle.book.specs.Calls.{written, segmentCall};
-ghost use Rattle.book.specs.Path.{recorded};
-ghost use Rattle.book.specs.Sizes.{mostRecords};
 
-// A path after a print, which is recorded on a lent copy of it.
-fn recorded_once(path: PrintPath, pending: u64, prev: LastPrice, price: Price) -> PrintPath
-    ensures { λ r. ⌜ r ≡ recorded pending prev price path ⌝ }
-{
-    let mut p = path;
-    stop_orders::record_print(&mut p, pending, prev, price);
-    p
+// A path after a print, which is recorded on it where it is lent.
+fn recorded_once(mut path: PrintPath, pending: u64, prev: LastPrice, price: Price) -> PrintPath {
+    stop_orders::record_print(&mut path, pending, prev, price);
+    path
 }
 
-// What a segment answers, and its lists.
-struct SegmentListing {
-    answer: EvaluationAnswer,
-    elected: [Elected; MOST_RECORDS],
-    moved: [Moved; MOST_MOVES],
-}
-
-// A segment that is lent the first entries of two lists.
-fn segment_into(
+// A segment that is lent two lists, which are printed with its answer.
+fn segment_once(
     s: &mut [u64],
     settings: Settings,
     prints: PrintSegment,
-    list: [Elected; MOST_RECORDS],
-    room: usize,
-    moves: [Moved; MOST_MOVES],
-    moved_room: usize,
-) -> SegmentListing
-    requires { ⌜ (room ≤ mostRecords) × («moved_room» ≤ 2 * mostRecords) ⌝ }
-    ensures { λ r. ⌜ toldCounts (r .answer) ≡ segmentCall settings prints (now (s .entry)) (length (firsts room list)) (length (firsts «moved_room» moves)) .answer ⌝ }
-    ensures { λ r. ⌜ r .elected
-        ≡ written (segmentCall settings prints (now (s .entry)) (length (firsts room list)) (length (firsts «moved_room» moves)) .elected) (firsts room list) ++ drop room list ⌝ }
-    ensures { λ r. ⌜ r .moved
-        ≡ written (segmentCall settings prints (now (s .entry)) (length (firsts room list)) (length (firsts «moved_room» moves)) .moved) (firsts «moved_room» moves) ++ drop «moved_room» moves ⌝ }
-    ensures { λ _. ⌜ now (s .exit) ≡ segmentCall settings prints (now (s .entry)) (length (firsts room list)) (length (firsts «moved_room» moves)) .words ⌝ }
-{
-    let mut elected = list;
-    let mut moved = moves;
-    let answer = stop_orders::segment(
-        s,
-        settings,
-        prints,
-        &mut elected[..room],
-        &mut moved[..moved_room],
-    );
-    SegmentListing {
-        answer: answer,
-        elected: elected,
-        moved: moved,
+    mut elected: [Elected; 2],
+    mut moved: [Moved; 3],
+) {
+    let answer = stop_orders::segment(s, settings, prints, &mut elected, &mut moved);
+    print_segment(answer, elected, moved);
+}
+
+fn number(n: u64) {
+    io::write_all(1, b" ");
+    io::print_decimal(1, n);
+}
+
+fn print_elected(e: Elected) {
+    let stop = e.stop;
+    let trigger = e.trigger;
+    io::write_all(1, b"elected");
+    number(stop.0);
+    number(trigger.0);
+    io::write_all(1, b"\n");
+}
+
+fn print_moved(m: Moved) {
+    let stop = m.stop;
+    io::write_all(1, b"moved");
+    number(stop.0);
+    io::write_all(1, b"\n");
+}
+
+fn print_segment(answer: EvaluationAnswer, elected: [Elected; 2], moved: [Moved; 3]) {
+    match answer {
+        EvaluationAnswer::Ok(c) => {
+            io::write_all(1, b"moves");
+            number(c.moves);
+            io::write_all(1, b" elected");
+            number(c.elected);
+        }
+        EvaluationAnswer::Err(_) => {
+            io::write_all(1, b"refused");
+        }
     }
+    io::write_all(1, b"\n");
+    print_elected(elected[0]);
+    print_elected(elected[1]);
+    print_moved(moved[0]);
+    print_moved(moved[1]);
+    print_moved(moved[2]);
 }
 
 fn id(low: u64) -> Id {
@@ -105,26 +104,6 @@ fn blank_moved() -> Moved {
         id: id(0),
         stop: Price(0),
     }
-}
-
-fn number(n: u64) {
-    io::write_all(1, b" ");
-    io::print_decimal(1, n);
-}
-
-fn print_answer(answer: EvaluationAnswer) {
-    match answer {
-        EvaluationAnswer::Ok(c) => {
-            io::write_all(1, b"moves");
-            number(c.moves);
-            io::write_all(1, b" elected");
-            number(c.elected);
-        }
-        EvaluationAnswer::Err(_) => {
-            io::write_all(1, b"refused");
-        }
-    }
-    io::write_all(1, b"\n");
 }
 
 // A sell stop of 2 at 95 that trails 100 by 5.
@@ -169,25 +148,6 @@ fn begin(s: &mut [u64]) -> PrintPath {
     admitted.path
 }
 
-// What a segment answers, and the first entries of its lists.
-fn print_listing(listing: SegmentListing) {
-    let answer = listing.answer;
-    print_answer(answer);
-    let elected = listing.elected;
-    let e = elected[0];
-    let stop = e.stop;
-    let trigger = e.trigger;
-    io::write_all(1, b"elected");
-    number(stop.0);
-    number(trigger.0);
-    let moved = listing.moved;
-    let m = moved[0];
-    let to = m.stop;
-    io::write_all(1, b"\nmoved");
-    number(to.0);
-    io::write_all(1, b"\n");
-}
-
 // A sweep from 102 down to 96: its first print is recorded on the path, and it ratchets the stop to 97 and elects it.
 fn main() {
     let mut s = [0u64; 64];
@@ -202,14 +162,11 @@ fn main() {
         first: first,
         last: Price(96),
     };
-    let listing = segment_into(
+    segment_once(
         &mut s,
         settings(),
         prints,
-        [blank_elected(); MOST_RECORDS],
-        1,
-        [blank_moved(); MOST_MOVES],
-        2,
+        [blank_elected(); 2],
+        [blank_moved(); 3],
     );
-    print_listing(listing);
 }

@@ -1,8 +1,7 @@
-// A pass over a lent list of records: what it elects is written as words into a local array, and from there into the
-// list.
+// A pass over a lent list of records: what it elects is written as words into a local array, as far as the list has
+// room, and from there into the list.
 use book::ELECTED_WORDS;
 use book::Elected;
-use book::ElectedWords;
 use book::MOST_RECORDS;
 use book::PassAnswer;
 use book::PrintSegment;
@@ -10,50 +9,10 @@ use book::Settings;
 use lent_lists::fill_elected;
 use word_rooms::least;
 use word_rooms::pass_count;
-ghost use Prim.Native.Nat.{_≤_};
-ghost use mathlib.Core.List.{map};
 ghost use mathlib.Core.Path.{_≡_};
-ghost use lib.ListN.{length, take as firsts};
+ghost use lib.ListN.{length};
 ghost use Rattle.book.specs.Answers.{toldPass};
 ghost use Rattle.book.specs.Calls.{written, passCall};
-ghost use Rattle.book.specs.Sizes.{mostRecords};
-ghost use Rattle.entry_records.specs.Records.{electedOf};
-
-// A pass's answer, and how many entries it put on its list.
-struct PassRun {
-    answer: PassAnswer,
-    count: usize,
-}
-
-// A pass for a list with this room. The words of what it elects are written from the start.
-fn pass_words(
-    s: &mut [u64],
-    settings: Settings,
-    script: &[u64],
-    prints: PrintSegment,
-    words: &mut [ElectedWords],
-    room: usize,
-) -> PassRun
-    requires { ⌜ length (now words) ≡ mostRecords ⌝ }
-    ensures { λ r. ⌜ (r .count ≤ room) × (r .count ≤ mostRecords) ⌝ }
-    ensures { λ r. ⌜ toldPass (r .answer) ≡ passCall settings (now (script .entry)) prints (now (s .entry)) room .answer ⌝ }
-    ensures { λ _. ⌜ now (s .exit) ≡ passCall settings (now (script .entry)) prints (now (s .entry)) room .words ⌝ }
-    ensures { λ r. ⌜ map electedOf (firsts (r .count) (now (words .exit)))
-        ≡ passCall settings (now (script .entry)) prints (now (s .entry)) room .elected ⌝ }
-{
-    let k = least(room, words.len());
-    let answer = evaluate_pass::evaluate_pending_stops(
-        s,
-        settings,
-        script,
-        prints,
-        &mut words[..k],
-    );
-    PassRun {
-        answer: answer,
-        count: pass_count(answer),
-    }
-}
 
 // A pass: segments from a queue, at first this one, until it or the store is empty. Each elected stop whose child
 // identity is free uses the next script entry. The elected are written from the start of the list; later entries stay.
@@ -72,7 +31,14 @@ pub fn evaluate_pending_stops(
         ≡ written (passCall settings (now (script .entry)) prints (now (s .entry)) (length (now (elected .entry))) .elected) (now (elected .entry)) ⌝ }
 {
     let mut words = [[0u64; ELECTED_WORDS]; MOST_RECORDS];
-    let run = pass_words(s, settings, script, prints, &mut words, elected.len());
-    fill_elected(elected, &words, run.count);
-    run.answer
+    let room = least(elected.len(), MOST_RECORDS);
+    let answer = evaluate_pass::evaluate_pending_stops(
+        s,
+        settings,
+        &script[..],
+        prints,
+        &mut words[..room],
+    );
+    fill_elected(elected, &words, pass_count(answer));
+    answer
 }

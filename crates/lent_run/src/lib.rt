@@ -11,14 +11,13 @@ use book::StopRun;
 use lent_lists::fill_elected;
 use word_rooms::least;
 use word_rooms::pass_count;
-ghost use Prim.Native.Nat.{_≤_};
 ghost use mathlib.Core.List.{map};
 ghost use mathlib.Core.Path.{_≡_};
-ghost use lib.ListN.{length, take as firsts};
+ghost use lib.ListN.{length};
 ghost use Rattle.book.specs.Answers.{toldPass};
 ghost use Rattle.book.specs.Calls.{written, runCall};
-ghost use Rattle.book.specs.Sizes.{mostRecords};
-ghost use Rattle.entry_records.specs.Records.{electedOf};
+ghost use Rattle.evaluation.specs.Counts.{passCount};
+ghost use Rattle.listing.specs.Entries.{electedWords};
 ghost use Rattle.lent_run.specs.Runs.{toldRun, ranTo};
 
 // The path that a run begins with, and the last trade.
@@ -27,37 +26,31 @@ struct Start {
     trade: LastPrice,
 }
 
-// The answer of a run with the path after it, and how many entries it put on its list.
-struct ListedRun {
-    run: StopRun,
-    count: usize,
-}
-
-// A run for a list with this room, the path by value. The words of what it elects are written from the start.
+// A run over store and words, the path by value.
 fn run_words(
     s: &mut [u64],
     settings: Settings,
     script: &[u64],
     start: Start,
     words: &mut [ElectedWords],
-    room: usize,
-) -> ListedRun
-    requires { ⌜ length (now words) ≡ mostRecords ⌝ }
-    ensures { λ r. ⌜ (r .count ≤ room) × (r .count ≤ mostRecords) ⌝ }
-    ensures { λ r. ⌜ toldRun (r .run) ≡ ranTo settings (now (script .entry)) start (now (s .entry)) room ⌝ }
-    ensures { λ _. ⌜ now (s .exit) ≡ runCall settings (now (script .entry)) (start .trade) (now (s .entry)) room (start .path) .words ⌝ }
-    ensures { λ r. ⌜ map electedOf (firsts (r .count) (now (words .exit)))
-        ≡ runCall settings (now (script .entry)) (start .trade) (now (s .entry)) room (start .path) .elected ⌝ }
+) -> StopRun
+    ensures { λ r. ⌜ toldRun r ≡ ranTo settings (now (script .entry)) start (now (s .entry)) (length (now (words .entry))) ⌝ }
+    ensures { λ _. ⌜ now (s .exit)
+        ≡ runCall settings (now (script .entry)) (start .trade) (now (s .entry)) (length (now (words .entry))) (start .path) .words ⌝ }
+    ensures { λ _. ⌜ now (words .exit)
+        ≡ written (map electedWords (runCall settings (now (script .entry)) (start .trade) (now (s .entry)) (length (now (words .entry))) (start .path) .elected)) (now (words .entry)) ⌝ }
 {
-    let k = least(room, words.len());
     let path = start.path;
     let trade = start.trade;
-    let run = stop_run::run_stop_triggers(s, path, settings, script, trade, &mut words[..k]);
+    stop_run::run_stop_triggers(s, path, settings, script, trade, words)
+}
+
+// How many entries a run elected; none where it was refused.
+fn run_count(run: StopRun) -> usize
+    ensures { λ r. ⌜ r ≡ passCount (toldPass (run .answer)) ⌝ }
+{
     let answer = run.answer;
-    ListedRun {
-        run: run,
-        count: pass_count(answer),
-    }
+    pass_count(answer)
 }
 
 // A run over store and lent list, the path by value.
@@ -75,9 +68,10 @@ fn run_listed(
         ≡ written (runCall settings (now (script .entry)) (start .trade) (now (s .entry)) (length (now (elected .entry))) (start .path) .elected) (now (elected .entry)) ⌝ }
 {
     let mut words = [[0u64; ELECTED_WORDS]; MOST_RECORDS];
-    let run = run_words(s, settings, script, start, &mut words, elected.len());
-    fill_elected(elected, &words, run.count);
-    run.run
+    let room = least(elected.len(), MOST_RECORDS);
+    let run = run_words(s, settings, &script[..], start, &mut words[..room]);
+    fill_elected(elected, &words, run_count(run));
+    run
 }
 
 // A run over path and store: takes the path's segment, up to the last trade, passes, and resets the path. Where nothing

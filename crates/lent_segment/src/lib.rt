@@ -2,7 +2,6 @@
 // into the lists.
 use book::ELECTED_WORDS;
 use book::Elected;
-use book::ElectedWords;
 use book::EvaluationAnswer;
 use book::MOST_MOVES;
 use book::MOST_RECORDS;
@@ -16,49 +15,33 @@ use lent_lists::fill_moved;
 use word_rooms::elected_count;
 use word_rooms::least;
 use word_rooms::moved_count;
-ghost use Prim.Native.Nat.{_≤_, _*_};
 ghost use mathlib.Core.List.{map};
 ghost use mathlib.Core.Path.{_≡_};
-ghost use lib.ListN.{length, take as firsts};
+ghost use lib.ListN.{length};
 ghost use Rattle.book.specs.Answers.{toldCounts};
 ghost use Rattle.book.specs.Calls.{written, segmentCall};
-ghost use Rattle.book.specs.Sizes.{mostRecords};
-ghost use Rattle.entry_records.specs.Records.{electedOf, movedOf};
+ghost use Rattle.listing.specs.Entries.{movedWords};
 
-// A segment's answer, and how many entries it put on its lists.
-struct SegmentRun {
-    answer: EvaluationAnswer,
-    elected: usize,
-    moved: usize,
-}
-
-// A segment for lists with this room. The words of what it elects and moves are written from the start.
-fn segment_words(
+// A segment with the words of what it moves.
+fn segment_moving(
     s: &mut [u64],
     settings: Settings,
     prints: PrintSegment,
-    elected: &mut [ElectedWords],
-    elected_room: usize,
     moved: &mut [MovedWords],
-    moved_room: usize,
-) -> SegmentRun
-    requires { ⌜ (length (now elected) ≡ mostRecords) × (length (now moved) ≡ 2 * mostRecords) ⌝ }
-    ensures { λ r. ⌜ ((r .elected ≤ «elected_room») × (r .elected ≤ mostRecords)) × ((r .moved ≤ «moved_room») × (r .moved ≤ 2 * mostRecords)) ⌝ }
-    ensures { λ r. ⌜ toldCounts (r .answer) ≡ segmentCall settings prints (now (s .entry)) «elected_room» «moved_room» .answer ⌝ }
-    ensures { λ _. ⌜ now (s .exit) ≡ segmentCall settings prints (now (s .entry)) «elected_room» «moved_room» .words ⌝ }
-    ensures { λ r. ⌜ map electedOf (firsts (r .elected) (now (elected .exit)))
-        ≡ segmentCall settings prints (now (s .entry)) «elected_room» «moved_room» .elected ⌝ }
-    ensures { λ r. ⌜ map movedOf (firsts (r .moved) (now (moved .exit)))
-        ≡ segmentCall settings prints (now (s .entry)) «elected_room» «moved_room» .moved ⌝ }
+    elected: &mut [Elected],
+) -> EvaluationAnswer
+    ensures { λ r. ⌜ toldCounts r ≡ segmentCall settings prints (now (s .entry)) (length (now (elected .entry))) (length (now (moved .entry))) .answer ⌝ }
+    ensures { λ _. ⌜ now (s .exit) ≡ segmentCall settings prints (now (s .entry)) (length (now (elected .entry))) (length (now (moved .entry))) .words ⌝ }
+    ensures { λ _. ⌜ now (moved .exit)
+        ≡ written (map movedWords (segmentCall settings prints (now (s .entry)) (length (now (elected .entry))) (length (now (moved .entry))) .moved)) (now (moved .entry)) ⌝ }
+    ensures { λ _. ⌜ now (elected .exit)
+        ≡ written (segmentCall settings prints (now (s .entry)) (length (now (elected .entry))) (length (now (moved .entry))) .elected) (now (elected .entry)) ⌝ }
 {
-    let i = least(elected_room, elected.len());
-    let j = least(moved_room, moved.len());
-    let answer = evaluate_segment::segment(s, settings, prints, &mut elected[..i], &mut moved[..j]);
-    SegmentRun {
-        answer: answer,
-        elected: elected_count(answer),
-        moved: moved_count(answer),
-    }
+    let mut words = [[0u64; ELECTED_WORDS]; MOST_RECORDS];
+    let room = least(elected.len(), MOST_RECORDS);
+    let answer = evaluate_segment::segment(s, settings, prints, &mut words[..room], moved);
+    fill_elected(elected, &words, elected_count(answer));
+    answer
 }
 
 // A segment: a point at its first print, and one at its last if that differs. The elected and the moved are written
@@ -78,18 +61,9 @@ pub fn segment(
     ensures { λ _. ⌜ now (moved .exit)
         ≡ written (segmentCall settings prints (now (s .entry)) (length (now (elected .entry))) (length (now (moved .entry))) .moved) (now (moved .entry)) ⌝ }
 {
-    let mut fills = [[0u64; ELECTED_WORDS]; MOST_RECORDS];
-    let mut moves = [[0u64; MOVED_WORDS]; MOST_MOVES];
-    let run = segment_words(
-        s,
-        settings,
-        prints,
-        &mut fills,
-        elected.len(),
-        &mut moves,
-        moved.len(),
-    );
-    fill_elected(elected, &fills, run.elected);
-    fill_moved(moved, &moves, run.moved);
-    run.answer
+    let mut words = [[0u64; MOVED_WORDS]; MOST_MOVES];
+    let room = least(moved.len(), MOST_MOVES);
+    let answer = segment_moving(s, settings, prints, &mut words[..room], elected);
+    fill_moved(moved, &words, moved_count(answer));
+    answer
 }

@@ -1,76 +1,51 @@
--- `evaluate_pending_stops` meets its contract: its code is that of an evaluation with a lent list, over `pass_words`
--- and `fill_elected`.
-use mathlib.Core.Path.{refl}
+-- `evaluate_pending_stops` meets its contract: its code is that of an evaluation with a lent list, over
+-- `evaluate_pass::evaluate_pending_stops`.
+use mathlib.Core.Path.{ap}
 use mathlib.Core.List.{List}
 use Prim.Native.Nat.{ℕ}
-use Rattle.walks.proofs.WalkSteps.{URA, Heap, Atoms, Lft, givenOf, tables, tablesOf, RefT, tripleOf, Contract, entered}
-use Rattle.walks.proofs.WalkSteps.{cited}
+use base.Fml.{Lft}
+use denote.Ref.{RefT}
 use Rattle.error.specs.Answer.{Answer}
+use Rattle.book.specs.Answers.{toldPass}
+use Rattle.book.specs.Calls.{passCall, PassOutcome}
 use Rattle.book.specs.declared.PassCounts.{PassCounts}
+use Rattle.book.specs.declared.Elected.{Elected}
 use Rattle.book.specs.declared.PrintSegment.{PrintSegment}
 use Rattle.book.specs.declared.Settings.{Settings}
-use Rattle.book.specs.Answers.{toldPass}
-use Rattle.entry_records.specs.Records.{electedOf}
-use Rattle.lent_pass.specs.declared.PassRun.{PassRun}
-use Rattle.book.specs.Sizes.{electedLength}
-use Rattle.word_rooms.proofs.Cut.{ofList}
-use Rattle.book.specs.Calls.{passCall}
-use Rattle.walks.proofs.ListCalls.{Left, Handed, plainly, numbers, Parts, Evaluates, meets}
-use Rattle.walks.proofs.FillLoop.{Fills}
-use denote.Struct.Laws.{owed}
-use Rattle.lent_pass.proofs.PassRun as run
-use Rattle.lent_pass.proofs.PassRun.Laws as run′
-use Rattle.walks.proofs.Plain.{Plain, Stands, word, struct}
-use Rattle.walks.proofs.Types.{PrintsOf, ElectedOf, PassedOf}
-use Rattle.lent_pass.proofs.pass_words.Symbol as words-def
-use Rattle.lent_pass.proofs.pass_words.Symbol.{name as #words}
-use Rattle.lent_pass.proofs.pass_words.Met as words-thm
-use Rattle.lent_lists.proofs.fill_elected.Symbol as fill-def
-use Rattle.lent_lists.proofs.fill_elected.Symbol.{name as #fill}
-use Rattle.lent_lists.proofs.fill_elected.Met as fill-thm
+use Rattle.evaluation.specs.Counts.{passCount}
+use Rattle.evaluation.proofs.Rooms.{pass-lists, pass-cut}
+use Rattle.walks.proofs.Contracts.{Known}
+use Rattle.walks.proofs.ListCalls.{proved}
+use Rattle.walks.proofs.Types.{PrintsOf, PassedOf}
+use Rattle.walks.proofs.WordCalls.{Left, Shape, single, second, Evaluates, Lists}
+use Rattle.word_rooms.proofs.Callees.{least, pass-count}
+use Rattle.word_rooms.proofs.Listings.{elected, elects, ofList}
+use Rattle.lent_lists.proofs.Callees.{fill-elected}
+use Rattle.evaluate_pass.proofs.evaluate_pending_stops.Symbol as callee-def
+use Rattle.evaluate_pass.proofs.evaluate_pending_stops.Met as callee-thm
 use Rattle.lent_pass.proofs.evaluate_pending_stops.Key.{name as #pass}
-use Rattle.lent_pass.proofs.evaluate_pending_stops as f
 use Rattle.lent_pass.proofs.evaluate_pending_stops.Statement as stated
 use Rattle.lent_pass.proofs.evaluate_pending_stops.Code as code
 
-abbrev PassRunOf : Plain
-PassRunOf = struct run.the-type run′.the-laws run′.the-plain (λ d l. refl)
+abbrev shape : Shape
+shape = single second PrintsOf
 
-abbrev answer : PassRun → PassedOf .row .Denot
-answer r = r .answer
-
-abbrev count : PassRun → ℕ
-count r = r .count
-
-abbrev segment : Handed
-segment = plainly PrintsOf (λ d. tt)
-
-abbrev outcome : (κ : Lft) → Settings → RefT (List ℕ) → PrintSegment → List ℕ → ℕ → Left (Answer PassCounts)
+abbrev outcome : Lft → Settings → RefT (List ℕ) → PrintSegment → List ℕ → ℕ
+    → Left (Answer PassCounts) Elected (Unit {0})
 outcome κ settings script prints w room = ofList (passCall settings (script .now) prints w room)
 
-parts : Parts electedOf PassedOf PassRunOf answer count numbers segment toldPass outcome
-parts = record {
-  shaped = refl;
-  spelt = λ r. refl;
-  stand = λ r is. (owed run.the-type run′.the-laws r _ is .0, owed run.the-type run′.the-laws r _ is .1 .0);
-}
+lists : (κ : Lft) (settings : Settings) (script : RefT (List ℕ)) (prints : PrintSegment) (w : List ℕ)
+    → Lists elected passCount (outcome κ settings script prints w)
+lists κ settings script prints w = elects passCount (outcome κ settings script prints w)
+    (pass-lists settings (script .now) prints w)
+    (λ room. ap (λ (o : PassOutcome). ofList o) (pass-cut settings (script .now) prints w room))
 
-module _ {M : Type 1} (𝓤 : URA M) (H : Heap 𝓤) (A : Atoms 𝓤) where
-  abbrev Words : Contract 𝓤
-  Words = Evaluates electedOf PassedOf PassRunOf answer count numbers segment toldPass outcome 𝓤 H A
-
-  abbrev Fill : Contract 𝓤
-  Fill = Fills ElectedOf electedLength electedOf 𝓤 H A
+abbrev callee : Known (Evaluates elected PassedOf toldPass shape outcome)
+callee = record { name = callee-def.name; routine = callee-def.routine; met = callee-thm.met }
 
 pub evaluate-pending-stops-spec : {M : Type 1} → stated.statement M
-unfolding code.routine tablesOf
+unfolding code.routine
 evaluate-pending-stops-spec 𝓤 H 𝓜 𝓖 𝓡 =
-    entered 𝓤 H (tripleOf 𝓤 H (𝓖 .A) f.signature (f.spec 𝓤 H (𝓖 .A) (𝓜 .mem) (𝓡 .run)))
-    (tables 𝓤 H 𝓜 𝓡 code.env .C) (tables 𝓤 H 𝓜 𝓡 code.env .Λ) #pass code.function (code.unfolded 𝓤 H 𝓜 𝓡)
-    (meets electedOf PassedOf PassRunOf answer count numbers segment toldPass outcome 𝓤 H (𝓖 .A)
-    (givenOf 𝓤 H 𝓜 𝓖) parts #words #fill
-    (tablesOf 𝓤 H 𝓜 (tables 𝓤 H 𝓜 𝓡 code.env))
-    (cited 𝓤 H (Words 𝓤 H (𝓖 .A)) 𝓜 𝓡 code.env #words words-def.routine code.calls-lent-pass·pass-words
-    (words-thm.met 𝓤 H 𝓜 𝓖 𝓡))
-    (cited 𝓤 H (Fill 𝓤 H (𝓖 .A)) 𝓜 𝓡 code.env #fill fill-def.routine code.calls-lent-lists·fill-elected
-    (fill-thm.met 𝓤 H 𝓜 𝓖 𝓡)))
+    proved elected PassedOf toldPass passCount shape outcome lists least callee pass-count fill-elected 𝓤 H 𝓜 𝓖 𝓡
+    code.env #pass (code.unfolded 𝓤 H 𝓜 𝓡) code.calls-word-rooms·least code.calls-evaluate-pass·evaluate-pending-stops
+    code.calls-word-rooms·pass-count code.calls-lent-lists·fill-elected

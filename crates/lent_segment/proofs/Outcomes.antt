@@ -1,0 +1,58 @@
+-- A segment as a call that lists the elected, with the words of the moved as those of another list, and as one that
+-- lists the moved, with the elected as the other list.
+use mathlib.Core.Path.{_≡_, sym, ap, _∙_}
+use mathlib.Core.List.{List, map}
+use Prim.Native.Nat.{ℕ, min}
+use native.Mathlib.Omega.{arith}
+use Rattle.error.specs.Answer.{Answer}
+use Rattle.book.specs.Calls.{segmentCall, SegmentOutcome}
+use Rattle.book.specs.Sizes.{mostRecords}
+use Rattle.book.specs.declared.Counts.{Counts}
+use Rattle.book.specs.declared.Elected.{Elected}
+use Rattle.book.specs.declared.Moved.{Moved}
+use Rattle.book.specs.declared.PrintSegment.{PrintSegment}
+use Rattle.book.specs.declared.Settings.{Settings}
+use Rattle.evaluation.specs.Counts.{electedCount, movedCount}
+use Rattle.evaluation.proofs.Rooms.{segment-lists, segment-cut}
+use Rattle.listing.specs.Entries.{movedWords}
+use Rattle.walks.proofs.Constants.{mostMoves}
+use Rattle.walks.proofs.WordCalls.{Left, Lists}
+use Rattle.word_rooms.proofs.Listings.{elected, moved, elects, shifts}
+
+abbrev ofElected : SegmentOutcome → Left (Answer Counts) Elected (List ℕ)
+ofElected o = record { told = o .answer; words = o .words; entries = o .elected; others = map movedWords (o .moved) }
+
+abbrev ofMoved : SegmentOutcome → Left (Answer Counts) Moved Elected
+ofMoved o = record { told = o .answer; words = o .words; entries = o .moved; others = o .elected }
+
+module _ (settings : Settings) (prints : PrintSegment) (w : List ℕ) where
+  abbrev call : ℕ → ℕ → SegmentOutcome
+  call e m = segmentCall settings prints w e m
+
+  -- more room than the most, of either list
+  cut-elected : (e m : ℕ) → call (min e mostRecords) m ≡ call e m
+  cut-elected e m =
+      let twice : min e mostRecords ≡ min (min e mostRecords) mostRecords = omega arith in
+      sym (ap (λ i. call i (min m mostMoves)) twice ∙ segment-cut settings prints w (min e mostRecords) m)
+      ∙ segment-cut settings prints w e m
+
+  cut-moved : (e m : ℕ) → call e (min m mostMoves) ≡ call e m
+  cut-moved e m =
+      let twice : min m mostMoves ≡ min (min m mostMoves) mostMoves = omega arith in
+      sym (ap (λ i. call (min e mostRecords) i) twice ∙ segment-cut settings prints w e (min m mostMoves))
+      ∙ segment-cut settings prints w e m
+
+  -- n is the room of the other list
+  abbrev pub electing : ℕ → ℕ → Left (Answer Counts) Elected (List ℕ)
+  electing n room = ofElected (call room n)
+
+  abbrev pub moving : ℕ → ℕ → Left (Answer Counts) Moved Elected
+  moving n room = ofMoved (call n room)
+
+  pub electing-lists : (n : ℕ) → Lists elected electedCount (electing n)
+  electing-lists n = elects electedCount (electing n) (λ room. segment-lists settings prints w room n .0)
+      (λ room. ap (λ (o : SegmentOutcome). ofElected o) (cut-elected room n))
+
+  pub moving-lists : (n : ℕ) → Lists moved movedCount (moving n)
+  moving-lists n = shifts movedCount (moving n) (λ room. segment-lists settings prints w n room .1)
+      (λ room. ap (λ (o : SegmentOutcome). ofMoved o) (cut-moved n room))

@@ -1,0 +1,74 @@
+-- The two lists of records as the laws of lent lists take them, the entries of each read back from their words; and what
+-- is shown of a call that lists them.
+use Prim.Native.Nat.{ℕ, min}
+use mathlib.Core.Path.{_≡_, refl, ap, _∙_}
+use mathlib.Core.List.{List, [], _∷_, map}
+use lib.Dec.{lit<}
+use Rattle.error.specs.Answer.{Answer}
+use Rattle.book.specs.Calls.{ListOutcome}
+use Rattle.book.specs.Lists.{All}
+use Rattle.book.specs.Sizes.{electedLength, movedLength, mostRecords}
+use Rattle.book.specs.declared.Elected.{Elected}
+use Rattle.book.specs.declared.Moved.{Moved}
+use Rattle.entry_records.specs.Records.{electedOf, movedOf}
+use Rattle.entry_records.proofs.EntryWords.{elected-read, moved-read}
+use Rattle.evaluation.proofs.Rooms.{UuidChild, Listed, ListsElected}
+use Rattle.listing.specs.Entries.{electedWords, movedWords}
+use Rattle.walks.proofs.Constants.{records, moves, mostMoves}
+use Rattle.walks.proofs.Types.{ElectedOf, MovedOf}
+use Rattle.walks.proofs.WordCalls.{Listing, Left, Lists}
+
+abbrev pub elected : Listing
+elected = record {
+  records = ElectedOf;
+  wide = electedLength;
+  most = records;
+  of = electedOf;
+  words = electedWords;
+  fits = (lit< tt, lit< tt);
+}
+
+abbrev pub moved : Listing
+moved = record {
+  records = MovedOf;
+  wide = movedLength;
+  most = moves;
+  of = movedOf;
+  words = movedWords;
+  fits = (lit< tt, lit< tt);
+}
+
+entries-read : (es : List Elected) → All UuidChild es → map electedOf (map electedWords es) ≡ es
+entries-read [] u = refl
+entries-read (e ∷ es) u =
+    ap (_∷ map electedOf (map electedWords es)) (elected-read e (u .0)) ∙ ap (e ∷_) (entries-read es (u .1))
+
+moves-read : (ms : List Moved) → map movedOf (map movedWords ms) ≡ ms
+moves-read [] = refl
+moves-read (m ∷ ms) = ap (_∷ map movedOf (map movedWords ms)) (moved-read m) ∙ ap (m ∷_) (moves-read ms)
+
+-- a call that lists elected stops
+pub elects : {T B : Type 0} (count : T → ℕ) (call : ℕ → Left T Elected B)
+    → ((room : ℕ) → ListsElected (count (call room .told)) (call room .entries) room)
+    → ((room : ℕ) → call (min room mostRecords) ≡ call room) → Lists elected count call
+elects count call lists cut = record {
+  counted = λ room. lists room .0 .counted;
+  few = λ room. lists room .0 .few;
+  back = λ room. entries-read (call room .entries) (lists room .1);
+  cut = cut;
+}
+
+-- a call that lists moved ones
+pub shifts : {T B : Type 0} (count : T → ℕ) (call : ℕ → Left T Moved B)
+    → ((room : ℕ) → Listed (count (call room .told)) (call room .entries) room)
+    → ((room : ℕ) → call (min room mostMoves) ≡ call room) → Lists moved count call
+shifts count call lists cut = record {
+  counted = λ room. lists room .counted;
+  few = λ room. lists room .few;
+  back = λ room. moves-read (call room .entries);
+  cut = cut;
+}
+
+-- the outcome of a walk or a pass
+abbrev pub ofList : {A : Type 0} → ListOutcome A → Left (Answer A) Elected (Unit {0})
+ofList o = record { told = o .answer; words = o .words; entries = o .elected; others = [] }
