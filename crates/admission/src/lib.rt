@@ -16,14 +16,13 @@ use print_path::closed;
 use stop_terms::StopTerms;
 use stop_terms::is_behind;
 use stored_stops::find_id;
-ghost use mathlib.Core.Bool.{true, cond, not};
+ghost use mathlib.Core.Bool.{true, cond};
 ghost use mathlib.Core.Path.{_≡_};
 ghost use Prim.Native.Nat.{_-_, _<_};
 ghost use lib.Dec.{eqb};
 ghost use Rattle.book.specs.Path.{closed};
 ghost use Rattle.error.specs.Questions.{firstNo};
 ghost use Rattle.book.specs.Store.{withinWatermark, notTriggered, admit, admissionQuestions};
-ghost use Rattle.book.specs.Store as store;
 ghost use Rattle.error.specs.Verdict.{toldVerdict};
 ghost use Rattle.book.specs.Answers.{toldAdmission};
 

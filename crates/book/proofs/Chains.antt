@@ -1,14 +1,13 @@
 -- The words of a book's chains: each head names the first record of its chain, and each link the next.
 use Prim.Native.Nat.{ℕ, _-_, _<_}
 use native.Mathlib.Omega.{arith}
-use mathlib.Core.Path.{_≡_, refl, sym, ap, _∙_}
+use mathlib.Core.Path.{_≡_, refl, _∙_}
 use mathlib.Core.List.{List, _++_}
-use lib.ListN.{length, getD}
+use lib.ListN.{getD}
 use Rattle.pricelevel.specs.declared.Side.the-variants.{Buy, Sell}
-use Rattle.book.proofs.FreeChain.{VacantFrom}
 use Rattle.book.proofs.Members.{Belongs, belongs-range}
 use Rattle.book.proofs.Places.{layout-header, layout-record}
-use Rattle.book.specs.Book.{Slot, vacant, held, Book, Chain, ByStop, ByWatermark, chainSide, sideOf}
+use Rattle.book.specs.Book.{vacant, held, Book, Chain, ByStop, ByWatermark, chainSide, sideOf}
 use Rattle.book.specs.Chains.{StoreChain, Ordered, Free, startOf, nextOf, linkOf, chainsOf}
 use Rattle.book.specs.Lists.{headOr0}
 use Rattle.book.specs.Sizes.{headerLength, recordLength}

@@ -13,10 +13,10 @@ use Rattle.book.specs.Lists.{All}
 use Rattle.book.proofs.Lookup.{InBook}
 use Rattle.book.proofs.Operations.{withSlot-valid, withSlot-fits}
 use Rattle.book.proofs.Questions.{firstNo-none}
-use Rattle.book.proofs.VacantIndices.{vacantIndices-kept, pendingCount-set}
+use Rattle.book.proofs.VacantIndices.{vacantIndices-kept}
 use Rattle.book.proofs.Soundness.{Sound, sound-parts, sound-of, consistent-parts, consistent-of}
 use Rattle.book.specs.Valid.{Valid, StopFits, SlotFits, Fits}
-use Rattle.book.specs.Book.{Slot, vacant, held, Book, Pending, pendingCount}
+use Rattle.book.specs.Book.{Slot, vacant, held, Book, Pending}
 use Rattle.error.specs.Questions.{firstNo}
 use Rattle.book.specs.Store.{withinWatermark, withTerms, changedTerms, changedQuantity, takesSequence, changeQuestions, changedEntry, changed}
 use Rattle.book.specs.Words.{soundStop}
@@ -131,13 +131,3 @@ module _ (update : OrderUpdate) (p : Pending) (b : Book) where
   pub changed-length : length (changed update p b .slots) ≡ length (b .slots)
   unfolding changed
   changed-length = length-set (b .slots) (p .index - 1) (held (changedEntry update (p .entry) b))
-
-  pub changed-count : InBook (b .slots) p → pendingCount (changed update p b .slots) ≡ pendingCount (b .slots)
-  unfolding changed pendingCount
-  changed-count h =
-      omega (
-        arith,
-        rw (h .there) at
-            (pendingCount-set (b .slots) (p .index - 1) (held (changedEntry update (p .entry) b))
-            (omega (arith, h .from, h .to))),
-      )

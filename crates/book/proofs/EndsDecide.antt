@@ -14,7 +14,7 @@ use Rattle.book.proofs.Agreement.{Agree, segment-walk}
 use Rattle.book.proofs.Questions.{firstNo-of}
 use Rattle.book.proofs.Stops.{trails-of-sound}
 use Rattle.book.proofs.WellFormed.{wellFormed-valid}
-use Rattle.book.specs.Book.{Book, Pending}
+use Rattle.book.specs.Book.{Book}
 use Rattle.book.specs.Calls.{Settings, electedEntry, electedEntries, countsOf, pendingIn, segmentQuestions, segmentCall, walkQuestions, walkCall}
 use Rattle.book.specs.Sizes.{mostPrices}
 use Rattle.book.specs.Evaluation.{Fill, fillAt, Evaluated, lastOf, segment, walk}

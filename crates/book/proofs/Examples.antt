@@ -13,11 +13,11 @@ use Rattle.pricelevel.specs.declared.IdKind.the-variants as kind
 use Rattle.pricelevel.specs.declared.Price.{Price}
 use Rattle.pricelevel.specs.declared.Seq.{Seq}
 use Rattle.pricelevel.specs.declared.Side.{Side}
-use Rattle.pricelevel.specs.declared.Side.the-variants.{Buy, Sell}
+use Rattle.pricelevel.specs.declared.Side.the-variants.{Sell}
 use Rattle.stop_protection.specs.declared.Protection.the-variants as protection
 use Rattle.stop_terms.specs.Terms.{behind, candidate, tightened, ratcheted, trailedAt, elects, electedAt, beyond, inconsistencyOf, inconsistencyNumber}
 use Rattle.stop_terms.specs.declared.StopTerms.{StopTerms}
-use Rattle.book.specs.Book.{chainSide, before, lexicographic, withIndex, gather, ofSide, pendingOn, chain, indices, pendingCount}
+use Rattle.book.specs.Book.{before, lexicographic, withIndex, gather, ofSide, pendingOn, chain, indices, pendingCount}
 use Rattle.book.specs.Calls.{Settings, Counts, SegmentOutcome, WalkOutcome, electedEntry, electedEntries, countsOf, pendingIn, segmentQuestions, segmentCall, walkQuestions, walkCall}
 use Rattle.book.specs.Evaluation.{trailed, leaves, vacatedIf, settled, leavingOn, leaver, electedOn, electedBy, freed, changedOn, mover, movedEntry, movedOn, movedBy, fillAt, point, sellsFirst, fallsTo, andThen, walkFrom, segment, lastOf, walk}
 use Rattle.book.specs.Lists.{headOr0, isNone, isSome, rising, every, sameList, insertBy, sortBy}

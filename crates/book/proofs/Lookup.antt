@@ -14,7 +14,7 @@ use Rattle.pricelevel.specs.declared.Side.{Side}
 use Rattle.pricelevel.specs.declared.Side.the-variants.{Buy, Sell}
 use Rattle.book.proofs.Sort.{sortBy-all, sortBy-parts}
 use Rattle.book.proofs.Lists.{all-map, all-append, all-append-parts, getD-all}
-use Rattle.book.specs.Book.{Slot, vacant, held, Book, Chain, ByStop, chainSide, Pending, sideOf, withIndex, gather, sort, ofSide, pendingOn, chain, earlierIn}
+use Rattle.book.specs.Book.{Slot, vacant, held, Book, Chain, ByStop, chainSide, Pending, sideOf, withIndex, gather, ofSide, pendingOn, chain, earlierIn}
 use Rattle.book.specs.Store.{named, lookup, isPending}
 use Rattle.book.specs.declared.StopEntry.{StopEntry}
 use Rattle.book.specs.Lists.{All, isSome}

@@ -6,13 +6,13 @@ use mathlib.Core.Path.{_≡_, refl, sym}
 use mathlib.Core.Logic.{_≢_}
 use mathlib.Core.List.{List, [], _∷_}
 use mathlib.Core.Option.{Option, none, some}
-use lib.ListN.{length, getD, length-map}
+use lib.ListN.{length, getD}
 use Rattle.pricelevel.specs.declared.Side.{Side}
 use Rattle.pricelevel.specs.declared.Side.the-variants.{Buy, Sell}
 use Rattle.book.proofs.FreeChain.{VacantFrom, free-all-vacant, free-distinct}
 use Rattle.book.proofs.Lists.{all-map, all-mapped}
 use Rattle.book.proofs.Lookup.{Gathered, gather-gathered, gather-all, pendingOn-held, held-pendingOn}
-use Rattle.book.proofs.Sort.{Pairwise, Distinct, sortBy-all, sortBy-length, sortBy-pairwise}
+use Rattle.book.proofs.Sort.{Pairwise, Distinct, sortBy-all, sortBy-pairwise}
 use Rattle.book.specs.Book.{Slot, vacant, held, Book, Chain, chainSide, Pending, sideOf, withIndex, gather, ofSide, pendingOn, chain, indices, earlierIn}
 use Rattle.book.specs.Chains.{StoreChain, Ordered, Free, Member, chainsOf}
 use Rattle.book.specs.Lists.{All}
@@ -135,20 +135,6 @@ chainIndices-distinct c b =
     indices-distinct (chain c (b .slots))
     (sortBy-pairwise (earlierIn c) Other (λ p q h e. h (sym e)) (gather (pendingOn (chainSide c)) 1 (b .slots))
     (gather-other (pendingOn (chainSide c)) 1 (b .slots)))
-
-gather-length : (choice : Slot → Option StopEntry) (i : ℕ) (ss : List Slot) → length (gather choice i ss) ≤ length ss
-unfolding gather withIndex
-gather-length choice i [] = omega arith
-gather-length choice i (s ∷ ss) = go (choice s) (gather-length choice (suc i) ss)
-  where
-    go : (o : Option StopEntry) → length (gather choice (suc i) ss) ≤ length ss
-        → length (withIndex i o (gather choice (suc i) ss)) ≤ suc (length ss)
-    go none h = omega arith
-    go (some t) h = omega arith
-
-pub chainIndices-length : (c : Chain) (b : Book) → length (chainIndices c b) ≤ length (b .slots)
-unfolding chainIndices indices chain
-chainIndices-length c b = simp (length-map, sortBy-length) (gather-length (pendingOn (chainSide c)) 1 (b .slots))
 
 -- of all five
 pub chainsOf-belong : (b : Book) → Valid b → (a : StoreChain) → All (Belongs a (b .slots)) (chainsOf b a)

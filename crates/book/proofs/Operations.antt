@@ -7,7 +7,6 @@ use mathlib.Core.List.{List, [], _∷_}
 use mathlib.Core.Option.{none}
 use borrow.Author.Tests.{ltb-true, leb-true, not-true}
 use lib.ListN.{length, set, drop, replicate, length-set, length-replicate}
-use Rattle.pricelevel.specs.Tick.{onTick}
 use Rattle.pricelevel.specs.declared.Id.{Id}
 use Rattle.pricelevel.specs.declared.Quantity.{Quantity}
 use Rattle.stop_terms.specs.declared.StopTerms.{StopTerms}
@@ -19,11 +18,11 @@ use Rattle.book.proofs.Questions.{firstNo-none}
 use Rattle.book.proofs.VacantIndices.{Taken, vacantIndices-rising, vacantIndices-empty, vacantIndices-vacated, vacantIndices-taken, pendingCount-set}
 use Rattle.book.proofs.Soundness.{sound-of, sound-later, consistent-of}
 use Rattle.book.specs.Valid.{Admissible, Valid, StopFits, SlotFits, Fits}
-use Rattle.book.specs.Book.{Slot, vacant, held, Book, Pending, seqOf, pendingCount}
+use Rattle.book.specs.Book.{Slot, vacant, held, Book, Pending, pendingCount}
 use Rattle.book.specs.Lists.{headOr0, sortBy, All}
 use Rattle.error.specs.Questions.{firstNo}
-use Rattle.book.specs.Store.{emptyBook, lookup, admissionQuestions, admitted, newEntry, vacated}
-use Rattle.book.specs.Words.{consistent, soundStop, allDiffer, vacantIndices, sortRising, bookOf, wellFormed}
+use Rattle.book.specs.Store.{emptyBook, admissionQuestions, admitted, newEntry, vacated}
+use Rattle.book.specs.Words.{soundStop, allDiffer, vacantIndices, sortRising, bookOf, wellFormed}
 use Rattle.book.specs.Sizes.{mostRecords}
 use Rattle.book.specs.declared.LastPrice.{LastPrice}
 use Rattle.book.specs.declared.StopEntry.{StopEntry}

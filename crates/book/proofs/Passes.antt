@@ -5,17 +5,16 @@ use mathlib.Core.Path.{_≡_, refl}
 use mathlib.Core.List.{List, [], _∷_, _++_}
 use native.Mathlib.Nat.{suc-mul}
 use native.Mathlib.Omega.{arith}
-use lib.ListN.{length, drop, length-append, length-map}
+use lib.ListN.{length, length-append, length-map}
 use Rattle.book.proofs.Walks.{Kept, kept-trans, segment-points, points-valid, points-fits, points-kept, points-count, SegmentFits, segmentPrices-fits, segment-moves}
-use Rattle.book.proofs.Execution.{executed-segments, executed-fits, executed-used, script-left}
+use Rattle.book.proofs.Execution.{executed-segments, executed-fits}
 use Rattle.book.proofs.Lists.{all-append, all-drop}
 use Rattle.book.specs.Lists.{All}
 use Rattle.book.specs.Valid.{Valid, Fits}
 use Rattle.book.proofs.WellFormed.{IsWord}
 use Rattle.book.specs.Book.{Book, pendingCount}
 use Rattle.book.specs.Calls.{Settings, electedEntry, electedEntries, Passed, evaluatedIn, executedIn, scriptAfter, ended, withSegment, passFrom, pass}
-use Rattle.book.specs.Evaluation.{Evaluated, segment}
-use Rattle.book.specs.Script.{Executed, executed}
+use Rattle.book.specs.Evaluation.{Evaluated}
 use Rattle.book.specs.Sizes.{scriptEntryLength}
 use Rattle.book.specs.declared.PrintSegment.{PrintSegment}
 
@@ -110,21 +109,6 @@ module _ (s : Settings) where
       (λ k script prints queue b rest ih. rw length-append
       (omega (arith, ih, entries-length prints b, points-count (s .kill) (segment-points (s .kill) prints b))))
 
-  -- of a script of n entries it uses at most n
-  pub passFrom-used : (k : ℕ) (script : List ℕ) (queue : List PrintSegment) (b : Book) (n : ℕ)
-      → length script ≡ scriptEntryLength * n
-      → passFrom k s script queue b .used ≤ n
-  passFrom-used = passFrom-induction (λ k script queue b o. (n : ℕ) → length script ≡ scriptEntryLength * n
-      → o .used ≤ n) (λ k script queue b n h. omega arith)
-      (λ k script prints queue b rest ih n h.
-      let used : ℕ = executedIn s script prints b .used in
-      omega (
-        arith,
-        executed-used script (electedEntries s (evaluatedIn s prints b)) n h,
-        ih (n - used)
-            (script-left script n used h),
-      ))
-
   -- two moves a stop and segment, of which there are no more than the fuel
   pub passFrom-moves : (most k : ℕ) (script : List ℕ) (queue : List PrintSegment) (b : Book)
       → pendingCount (b .slots) ≤ most
@@ -189,12 +173,3 @@ module _ (s : Settings) (script : List ℕ) (prints : PrintSegment) (b : Book) w
       (pass s script prints b .entries)
   unfolding pass
   pass-count = passFrom-count s _ script (prints ∷ []) b
-
-  pub pass-used : (n : ℕ) → length script ≡ scriptEntryLength * n → pass s script prints b .used ≤ n
-  unfolding pass
-  pass-used n h = passFrom-used s _ script (prints ∷ []) b n h
-
-  pub pass-moves : pass s script prints b .moves ≤ suc (pendingCount (b .slots)) * (2 * pendingCount (b .slots))
-  unfolding pass
-  pass-moves = passFrom-moves s (pendingCount (b .slots))
-      (suc (pendingCount (b .slots))) script (prints ∷ []) b (omega arith)

@@ -1,6 +1,6 @@
 -- How many stops a point takes out and how many it moves.
 use Prim.Native.Nat.{ℕ, suc, _≤_, _+_}
-use mathlib.Core.Path.{_≡_, refl, ap, _∙_}
+use mathlib.Core.Path.{_≡_, ap, _∙_}
 use mathlib.Core.Bool.{Bool}
 use mathlib.Core.List.{List, [], _∷_, map}
 use native.Mathlib.Omega.{arith}

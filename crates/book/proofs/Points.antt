@@ -16,7 +16,7 @@ use Rattle.stop_terms.proofs.Terms.{behind-irrefl, past-trans}
 use Rattle.book.proofs.Lists.{all-map, all-mapped, map-agree}
 use Rattle.book.proofs.SortedParts.{Part, never, parted, Met, Unmet, stops-apart, part-early, part-late}
 use Rattle.book.proofs.Stops.{Trails, trailed-still, trailed-keeps, trailed-again, leaves-not-behind, waits-behind, leaves-further, Settled, trailed-settled, trailed-stays}
-use Rattle.book.specs.Book.{Slot, vacant, held, Book, ByStop, sideOf, watermarkOf, Pending, withIndex, gather, sort, ofSide}
+use Rattle.book.specs.Book.{Slot, vacant, held, Book, ByStop, sideOf, watermarkOf, Pending, withIndex, gather, ofSide}
 use Rattle.book.specs.Evaluation.{trailed, leaves, vacatedIf, settled, leavingOn, leaver, electedOn, electedBy, freed, point}
 use Rattle.book.specs.declared.StopEntry.{StopEntry}
 use Rattle.book.specs.Lists.{sortBy, All}
@@ -145,10 +145,6 @@ pub point-settled : (kill first : Bool) (p : Price) (b : Book) → All Trails (b
 unfolding point
 point-settled kill first p b h =
     all-mapped Trails (SlotSettled kill p) (settled kill p) (slot-settled kill p) (b .slots) h
-
-pub point-trails : (kill first : Bool) (p : Price) (b : Book) → All Trails (b .slots)
-    → All Trails (point kill first p b .book .slots)
-point-trails kill first p b h = settled-trails kill p (point kill first p b .book) (point-settled kill first p b h)
 
 electedOn-none : (kill : Bool) (o q : Price) (d : Side) (b : Book) → behind d (q .0) (o .0) ≡ false
     → BookSettled kill o b

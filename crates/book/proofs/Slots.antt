@@ -17,7 +17,7 @@ use Rattle.pricelevel.specs.declared.Side.the-variants.{Buy, Sell}
 use Rattle.book.specs.Lists.{All}
 use Rattle.book.specs.Valid.{SlotFits}
 use Rattle.book.specs.Book.{Slot, vacant, held}
-use Rattle.book.specs.Words.{cell, recordWord, kindOf, sideFrom, entryAt, slotAt, slotsAt, consistent}
+use Rattle.book.specs.Words.{recordWord, kindOf, sideFrom, entryAt, slotAt, slotsAt}
 use Rattle.book.specs.declared.StopEntry.{StopEntry}
 use Rattle.pricelevel.specs.declared.IdKind.{IdKind}
 use Rattle.pricelevel.specs.declared.Side.{Side}

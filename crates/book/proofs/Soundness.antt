@@ -11,7 +11,7 @@ use Rattle.pricelevel.specs.Tick.{onTick}
 use Rattle.stop_terms.proofs.Terms.{inconsistency-number}
 use Rattle.stop_terms.specs.Terms.{behind}
 use Rattle.stop_terms.specs.declared.StopTerms.{StopTerms}
-use Rattle.book.specs.Book.{Slot, vacant, held, sideOf, stopOf, watermarkOf, seqOf}
+use Rattle.book.specs.Book.{Slot, vacant, held, seqOf}
 use Rattle.book.specs.Lists.{isNone}
 use Rattle.book.specs.Store.{withinWatermark}
 use Rattle.book.specs.Words.{consistent, soundStop}

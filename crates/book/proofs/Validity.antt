@@ -8,7 +8,7 @@ use Rattle.pricelevel.proofs.Bools.{and-parts}
 use Rattle.book.proofs.Lists.{every-all, all-every, sameList-equal, sameList-refl}
 use Rattle.book.specs.Book.{Book}
 use Rattle.book.specs.Lists.{every}
-use Rattle.book.specs.Words.{soundStop, allDiffer, vacantIndices, sortRising, valid}
+use Rattle.book.specs.Words.{soundStop, allDiffer, vacantIndices, valid}
 use Rattle.book.specs.Sizes.{mostRecords}
 use Rattle.book.specs.Valid.{Valid}
 

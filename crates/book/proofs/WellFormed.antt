@@ -1,21 +1,16 @@
 -- Well-formed words are the layout of a valid book whose numbers are words, with any words behind it, and so is each
 -- such layout.
 use Rattle.book.proofs.Slots.{slotsAt-all, kindNumber-most, slotAt-fits, sideNumber-most}
-use Prim.Native.Nat.{ℕ, zero, suc, _+_, _-_, _*_, _≤_, _<_, _^_}
+use Prim.Native.Nat.{ℕ, suc, _+_, _-_, _*_, _≤_, _<_, _^_}
 use mathlib.Core.Path.{_≡_, sym}
-use mathlib.Core.Bool.{Bool, true, false, cond}
+use mathlib.Core.Bool.{true}
 use mathlib.Core.List.{List, [], _∷_, _++_}
 use native.Mathlib.Omega.{arith}
 use borrow.Author.Tests.{ltb-true, lt-ltb, leb-true, le-leb}
-use lib.Dec.{leb, ltb, eqb}
+use lib.Dec.{leb, ltb}
 use lib.ListN.{length, getD, take, drop, length-append, length-drop, take-append-drop}
 use lib.Seq.{getD-take, take-at, drop-at}
 use Rattle.pricelevel.proofs.Bools.{and-parts}
-use Rattle.pricelevel.specs.Identity.{kindNumber}
-use Rattle.pricelevel.specs.Side.{sideNumber}
-use Rattle.pricelevel.specs.declared.IdKind.{IdKind}
-use Rattle.pricelevel.specs.declared.IdKind.the-variants.{Uuid, Ulid, Sequential}
-use Rattle.pricelevel.specs.declared.Side.{Side}
 use Rattle.pricelevel.specs.declared.Side.the-variants.{Buy, Sell}
 use Rattle.book.proofs.ChainIndices.{headOr0-all, nextIn-all, chainIndices-range}
 use Rattle.book.proofs.FreeChain.{VacantFrom, pendingCount-vacant, free-all-vacant}
@@ -27,7 +22,7 @@ use Rattle.book.specs.Valid.{Valid, SlotFits, Fits}
 use Rattle.book.specs.Book.{Slot, vacant, held, Book, Chain, ByStop, ByWatermark, sideOf}
 use Rattle.book.specs.Lists.{headOr0, All}
 use Rattle.book.specs.Store.{stored, storedBook}
-use Rattle.book.specs.Words.{nextIn, chainIndices, header, recordWords, recordsWords, layout, cell, recordWord, entryAt, slotAt, slotsAt, bookOf, valid, areWords, wellFormed, dataWords, afterByStop, afterByWatermark, withLinks}
+use Rattle.book.specs.Words.{nextIn, chainIndices, header, recordWords, recordsWords, layout, cell, recordWord, bookOf, valid, areWords, wellFormed, dataWords, afterByStop, afterByWatermark, withLinks}
 use Rattle.book.specs.Sizes.{headerLength, recordLength, storeLength}
 
 ------------------------------------------------------------------------

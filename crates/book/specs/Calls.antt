@@ -2,9 +2,8 @@
 -- call lists; of a lent list the call asks its length alone. Document 01, The questions a call goes through; One point,
 -- one segment, one pass.
 use Prim.Native.Nat.{ℕ, zero, suc, _+_, _*_}
-use mathlib.Core.Bool.{Bool, true, false, not, cond, _&&_, _||_}
+use mathlib.Core.Bool.{not, cond, _&&_, _||_}
 use mathlib.Core.List.{List, [], _∷_, _++_, map}
-use mathlib.Core.Option.{Option, none, some}
 use lib.Dec.{leb, eqb}
 use lib.ListN.{length, drop}
 use Rattle.error.specs.Answer.{Answer, refused, accepted}

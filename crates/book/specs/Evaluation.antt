@@ -1,15 +1,14 @@
 -- A point, a segment and a walk over a book: document 01, One point, one segment, one pass.
-use Prim.Native.Nat.{ℕ, suc, _+_}
+use Prim.Native.Nat.{ℕ, _+_}
 use mathlib.Core.Bool.{Bool, true, false, not, cond, _&&_}
 use mathlib.Core.List.{List, [], _∷_, _++_, map}
-use mathlib.Core.Option.{Option, none, some}
+use mathlib.Core.Option.{Option, none}
 use lib.Dec.{leb, ltb, eqb}
-use lib.ListN.{length}
 use Rattle.pricelevel.specs.declared.Price.{Price}
 use Rattle.pricelevel.specs.declared.Side.{Side}
 use Rattle.pricelevel.specs.declared.Side.the-variants.{Buy, Sell}
 use Rattle.stop_terms.specs.Terms.{trailedAt, electedAt}
-use Rattle.book.specs.Book.{Slot, vacant, held, Book, Chain, ByStop, ByWatermark, Pending, gather, sort, sideOf, stopOf, ofSide}
+use Rattle.book.specs.Book.{Slot, vacant, held, Book, ByStop, ByWatermark, Pending, gather, sort, sideOf, stopOf, ofSide}
 use Rattle.book.specs.declared.LastPrice.{LastPrice}
 use Rattle.book.specs.declared.LastPrice.the-variants as last
 use Rattle.book.specs.declared.Moved.{Moved}

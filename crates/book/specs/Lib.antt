@@ -2,6 +2,7 @@ pub mod Answers
 pub mod Book
 pub mod Calls
 pub mod Chains
+pub mod Entries
 pub mod Evaluation
 pub mod Lists
 pub mod Path

@@ -1,14 +1,10 @@
 -- A pass over a queue of segments, with the script that stands for the matching of its children: document 01, One
 -- point, one segment, one pass.
 use Prim.Native.Nat.{ℕ, _+_, _*_}
-use mathlib.Core.Bool.{Bool, true, false, cond, not, _&&_, _||_}
-use mathlib.Core.List.{List, [], _∷_, _++_, map}
-use mathlib.Core.Option.{Option, none, some}
+use mathlib.Core.Bool.{Bool, true, false, cond, _&&_, _||_}
+use mathlib.Core.List.{List, [], _∷_, _++_}
 use lib.Dec.{leb, eqb}
 use lib.ListN.{length, getD, drop}
-use Rattle.pricelevel.specs.declared.Price.{Price}
-use Rattle.book.specs.Book.{Book, pendingCount}
-use Rattle.book.specs.Evaluation.{Evaluated, Fill, segment}
 use Rattle.book.specs.Sizes.{scriptEntryLength}
 use Rattle.book.specs.declared.Elected.{Elected}
 use Rattle.book.specs.declared.LastPrice.{LastPrice}

@@ -1,6 +1,6 @@
 -- The calls on the store: layout, clear, find, admission, changes, cancel and totals. Document 01, The store;
 -- Admission, change, cancel; The questions a call goes through.
-use Prim.Native.Nat.{ℕ, zero, suc, _+_, _-_, _*_, _/_, _%_, _^_}
+use Prim.Native.Nat.{ℕ, _+_, _-_, _/_, _%_, _^_}
 use mathlib.Core.Bool.{Bool, true, false, not, cond, _&&_, _||_}
 use mathlib.Core.List.{List, [], _∷_, _++_}
 use mathlib.Core.Option.{Option, none, some}
@@ -17,7 +17,7 @@ use Rattle.pricelevel.specs.declared.Side.{Side}
 use Rattle.pricelevel.specs.declared.Side.the-variants.{Buy, Sell}
 use Rattle.stop_terms.specs.Terms.{behind, electedAt}
 use Rattle.stop_terms.specs.declared.StopTerms.{StopTerms}
-use Rattle.book.specs.Book.{Slot, vacant, held, Book, Chain, ByStop, Pending, sideOf, stopOf, pendingOn, chain, pendingCount}
+use Rattle.book.specs.Book.{Slot, vacant, held, Book, ByStop, Pending, sideOf, stopOf, pendingOn, chain, pendingCount}
 use Rattle.book.specs.Lists.{headOr0, rising, isSome}
 use Rattle.book.specs.Path.{closed}
 use Rattle.error.specs.Questions.{Question, question, firstNo, decide}

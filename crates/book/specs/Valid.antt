@@ -1,6 +1,6 @@
 -- What a valid book is, fact by fact, that its numbers are words, and when a stop may be taken into it: the facts
 -- behind `valid` and `areWords` of Words and the questions of an admission, as the proofs use them.
-use Prim.Native.Nat.{ℕ, _≤_, _<_, _^_}
+use Prim.Native.Nat.{_≤_, _<_, _^_}
 use mathlib.Core.Path.{_≡_}
 use mathlib.Core.Bool.{true}
 use mathlib.Core.Option.{none}

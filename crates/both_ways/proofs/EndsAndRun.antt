@@ -1,12 +1,12 @@
 -- Demand 3 over the two calls, from the theorem over their definitions.
-use Prim.Native.Nat.{ℕ, _-_, _≤_}
+use Prim.Native.Nat.{ℕ, _-_}
 use native.Mathlib.Omega.{arith}
 use mathlib.Core.Path.{_≡_, refl, sym, ap, subst, _∙_}
 use mathlib.Core.Bool.{cond}
 use mathlib.Core.List.{List, [], _∷_, map}
 use lib.ListN.{length, getD, take, drop, length-map}
 use lib.Seq.{take-at}
-use Rattle.error.specs.Answer.{Answer, refused, accepted}
+use Rattle.error.specs.Answer.{Answer, refused}
 use Rattle.pricelevel.specs.Identity.{kindNumber}
 use Rattle.pricelevel.specs.Side.{sideNumber}
 use Rattle.pricelevel.specs.declared.Price.{Price}
@@ -18,9 +18,9 @@ use Rattle.book.specs.Runs.{Likeness, likeness, DecidedByEnds}
 use Rattle.book.specs.declared.Elected.{Elected}
 use Rattle.book.specs.declared.LastPrice.{LastPrice}
 use Rattle.book.specs.declared.Settings.{Settings}
-use Rattle.listing.specs.Entries.{electedWords, movedWords, limitPresent, limitWord}
+use Rattle.book.specs.Entries.{electedWords, movedWords, limitPresent, limitWord}
 use Rattle.pricelevel.specs.Price.{toPrice}
-use Rattle.both_ways.specs.Ends.{endsCall, Goes, alikeWords, Comparable, Decided}
+use Rattle.both_ways.specs.Ends.{endsCall, alikeWords, Comparable, Decided}
 
 ------------------------------------------------------------------------
 -- The ends of a run of words
@@ -36,13 +36,12 @@ module _ (s : Settings) (prev : LastPrice) (w : List ℕ) (elected moved : List 
 
   -- a call answers, and leaves of store and lists
   abbrev Leaves : SegmentOutcome → Answer Counts → List ℕ → List (List ℕ) → List (List ℕ) → Type 0
-  Leaves o a u l m = (a ≡ o .answer)
-      × ((u ≡ o .words) × ((l ≡ written (map electedWords (o .elected)) elected)
-      × (m ≡ written (map movedWords (o .moved)) moved)))
+  Leaves o a u l m = (a ≡ o .answer) × (u ≡ o .words) × (l ≡ written (map electedWords (o .elected)) elected)
+      × (m ≡ written (map movedWords (o .moved)) moved)
 
   pub without-price : (ps : List ℕ) → length ps ≡ 0 → Leaves (outcome ps) (refused 16) w elected moved
   unfolding endsCall written
-  without-price [] e = (refl, (refl, (refl, refl)))
+  without-price [] e = (refl, refl, refl, refl)
   without-price (x ∷ xs) e = absurd (omega (arith, e))
 
   abbrev pub between : List ℕ → SegmentOutcome

@@ -17,7 +17,7 @@ ghost use lib.ListN.{length};
 ghost use Rattle.both_ways.specs.Ends.{endsCall, Comparable, Decided};
 ghost use Rattle.book.specs.Calls.{written, walkCall};
 ghost use Rattle.book.specs.Answers.{toldCounts};
-ghost use Rattle.listing.specs.Entries.{electedWords, movedWords};
+ghost use Rattle.book.specs.Entries.{electedWords, movedWords};
 ghost use Rattle.pricelevel.specs.Price.{toPrice};
 
 // A segment from a run's first price to its last. Refused as a segment is, and without a price (16).
@@ -29,16 +29,12 @@ fn over_ends(
     elected: &mut [ElectedWords],
     moved: &mut [MovedWords],
 ) -> EvaluationAnswer
-    ensures { λ r. ⌜ toldCounts r
-        ≡ endsCall settings prev (map toPrice (now (prices .entry))) (now (s .entry)) (length (now (elected .entry))) (length (now (moved .entry))) .answer ⌝ }
-    ensures { λ _. ⌜ now (s .exit)
-        ≡ endsCall settings prev (map toPrice (now (prices .entry))) (now (s .entry)) (length (now (elected .entry))) (length (now (moved .entry))) .words ⌝ }
-    ensures { λ _. ⌜ now (elected .exit)
-        ≡ written (map electedWords (endsCall settings prev (map toPrice (now (prices .entry))) (now (s .entry)) (length (now (elected .entry))) (length (now (moved .entry))) .elected))
-        (now (elected .entry)) ⌝ }
-    ensures { λ _. ⌜ now (moved .exit)
-        ≡ written (map movedWords (endsCall settings prev (map toPrice (now (prices .entry))) (now (s .entry)) (length (now (elected .entry))) (length (now (moved .entry))) .moved))
-        (now (moved .entry)) ⌝ }
+    ensures { λ r. ⌜ (let o = endsCall settings prev (map toPrice (now (prices .entry))) (now (s .entry))
+        (length (now (elected .entry))) (length (now (moved .entry))) in
+        (toldCounts r ≡ o .answer)
+        × (now (s .exit) ≡ o .words)
+        × (now (elected .exit) ≡ written (map electedWords (o .elected)) (now (elected .entry)))
+        × (now (moved .exit) ≡ written (map movedWords (o .moved)) (now (moved .entry)))) ⌝ }
 {
     let count = prices.len();
     if count == 0 {
@@ -75,21 +71,18 @@ pub fn evaluate_both_ways(
 ) -> BothWays
     ensures { λ r. ⌜ (Comparable (map toPrice (now (prices .entry))) (now (ends .entry)) (now (run .entry)) (length (now (elected .entry)))
         (length (now (moved .entry))) (length (now (listed .entry)))
-        → Decided (toldCounts (r .ends)) (toldCounts (r .run)) (now (ends .exit)) (now (run .exit)) (now (elected .exit)) (now (listed .exit))) ⌝ }
-    ensures { λ r. ⌜ toldCounts (r .ends)
-        ≡ endsCall settings prev (map toPrice (now (prices .entry))) (now (ends .entry)) (length (now (elected .entry))) (length (now (moved .entry))) .answer ⌝ }
-    ensures { λ _. ⌜ now (ends .exit)
-        ≡ endsCall settings prev (map toPrice (now (prices .entry))) (now (ends .entry)) (length (now (elected .entry))) (length (now (moved .entry))) .words ⌝ }
-    ensures { λ _. ⌜ now (elected .exit)
-        ≡ written (map electedWords (endsCall settings prev (map toPrice (now (prices .entry))) (now (ends .entry)) (length (now (elected .entry))) (length (now (moved .entry))) .elected))
-        (now (elected .entry)) ⌝ }
-    ensures { λ _. ⌜ now (moved .exit)
-        ≡ written (map movedWords (endsCall settings prev (map toPrice (now (prices .entry))) (now (ends .entry)) (length (now (elected .entry))) (length (now (moved .entry))) .moved))
-        (now (moved .entry)) ⌝ }
-    ensures { λ r. ⌜ toldCounts (r .run) ≡ walkCall settings prev (map toPrice (now (prices .entry))) (now (run .entry)) (length (now (listed .entry))) .answer ⌝ }
-    ensures { λ _. ⌜ now (run .exit) ≡ walkCall settings prev (map toPrice (now (prices .entry))) (now (run .entry)) (length (now (listed .entry))) .words ⌝ }
-    ensures { λ _. ⌜ now (listed .exit)
-        ≡ written (map electedWords (walkCall settings prev (map toPrice (now (prices .entry))) (now (run .entry)) (length (now (listed .entry))) .elected)) (now (listed .entry)) ⌝ }
+        → Decided (toldCounts (r .ends)) (toldCounts (r .run)) (now (ends .exit)) (now (run .exit)) (now (elected .exit))
+        (now (listed .exit))) ⌝ }
+    ensures { λ r. ⌜ (let o = endsCall settings prev (map toPrice (now (prices .entry))) (now (ends .entry))
+        (length (now (elected .entry))) (length (now (moved .entry))) in
+        (toldCounts (r .ends) ≡ o .answer)
+        × (now (ends .exit) ≡ o .words)
+        × (now (elected .exit) ≡ written (map electedWords (o .elected)) (now (elected .entry)))
+        × (now (moved .exit) ≡ written (map movedWords (o .moved)) (now (moved .entry)))) ⌝ }
+    ensures { λ r. ⌜ (let o = walkCall settings prev (map toPrice (now (prices .entry))) (now (run .entry)) (length (now (listed .entry))) in
+        (toldCounts (r .run) ≡ o .answer)
+        × (now (run .exit) ≡ o .words)
+        × (now (listed .exit) ≡ written (map electedWords (o .elected)) (now (listed .entry)))) ⌝ }
 {
     let one = over_ends(ends, settings, prev, prices, elected, moved);
     let two = walk(run, settings, prev, prices, listed);

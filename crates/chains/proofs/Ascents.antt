@@ -1,5 +1,5 @@
 -- Lists that ascend in a rank: a sort does, and one that has no more and no fewer elements than another is that one.
-use Prim.Native.Nat.{ℕ, suc, _≤_, _<_}
+use Prim.Native.Nat.{ℕ, _≤_, _<_}
 use native.Mathlib.Omega.{arith}
 use mathlib.Core.Path.{_≡_, refl, sym, ap, _∙_}
 use mathlib.Core.Logic.{_⊎_, inl, inr, _≢_}
@@ -7,11 +7,11 @@ use mathlib.Core.Bool.{Bool, true, false, cond}
 use mathlib.Core.List.{List, [], _∷_}
 use borrow.Author.Tests.{ltb-true, ltb-false}
 use lib.ListN.{length}
-use Rattle.book.proofs.Sort.{Pairwise, Distinct, sortBy-all, sortBy-parts, insertBy-all}
+use Rattle.book.proofs.Sort.{Pairwise, sortBy-all, sortBy-parts, insertBy-all}
 use Rattle.book.proofs.Lists.{all-map, all-map-both}
-use lib.Dec.{T, ltb}
+use lib.Dec.{ltb}
 use Rattle.chains.proofs.Members.{has-none, has-cases, all-has}
-use Rattle.chains.specs.Indices.{ranksEarlier, insertRanked, sortRanked, has, RanksDiffer}
+use Rattle.chains.specs.Indices.{ranksEarlier, insertRanked, sortRanked, RanksDiffer}
 use Rattle.book.specs.Lists.{sortBy, insertBy, All}
 
 -- each ranks below all that come after it
@@ -65,13 +65,6 @@ module _ (rk : ℕ → ℕ) where
 
   ------------------------------------------------------------------------
   -- Two lists that ascend
-
-  pub ascending-distinct : (l : List ℕ) → Ascending rk l → Distinct l
-  ascending-distinct [] a = tt
-  ascending-distinct (i ∷ l) a = (
-    all-map {P = λ j. rk i < rk j} {Q = λ j. i ≡ j → ⊥} (λ j h e. omega (arith, ap rk e)) l (a .0),
-    ascending-distinct l (a .1),
-  )
 
   -- what is not j, of a list within j ∷ m, is within m
   without : (j : ℕ) (l m : List ℕ) → All (λ x. rk j < rk x) l → Within l (j ∷ m) → Within l m

@@ -1,24 +1,23 @@
 -- Laws for the functions that move a record between chains: what they may walk and write, and what is then true of the
 -- five chains.
-use Prim.Native.Nat.{ℕ, _≤_, _<_}
-use mathlib.Core.Path.{_≡_, refl, sym, _∙_}
+use Prim.Native.Nat.{ℕ, _≤_}
+use mathlib.Core.Path.{_≡_, refl, sym}
 use mathlib.Core.Logic.{_≢_}
-use mathlib.Core.List.{List, [], _∷_}
-use native.Mathlib.Omega.{arith}
+use mathlib.Core.List.{List, _∷_}
 use lib.Dec.{T}
-use lib.ListN.{length, getD, set}
+use lib.ListN.{getD, set}
 use Rattle.pricelevel.specs.declared.Side.{Side}
 use Rattle.book.specs.Words.{cell, recordWord}
 use Rattle.book.specs.declared.Chain.{Chain}
 use Rattle.book.specs.declared.Chain.the-variants.{ByStop, ByWatermark}
-use Rattle.chains.proofs.Chained.{chained-range, chained-record, chained-walk, kept-out, chained-out, chained-in, chained-first}
+use Rattle.chains.proofs.Chained.{chained-range, chained-record, kept-out, chained-out, chained-in, chained-first}
 use Rattle.chains.proofs.Kept.{kept-rank}
 use Rattle.chains.proofs.OneChain.{spot-stop, linked-distinct}
 use Rattle.chains.proofs.Members.{has-here, distinct-absent, remove-here, remove-out}
-use Rattle.chains.proofs.Names.{name-stands, free-group, side-group, of-free, stop-watermark, upd-other, upd-all}
+use Rattle.chains.proofs.Names.{free-group, side-group, of-free, stop-watermark, upd-other, upd-all}
 use Rattle.chains.proofs.RankedSort.{insertRanked-cong}
 use Rattle.chains.specs.Chained.{Chained, Kept, Outside, On, Ready, upd, without, within}
-use Rattle.book.specs.Chains.{startOf, nextOf, groupOf, headOf, linkOf}
+use Rattle.book.specs.Chains.{groupOf, headOf, linkOf}
 use Rattle.book.specs.declared.StoreChain.{StoreChain}
 use Rattle.book.specs.declared.StoreChain.the-variants.{Ordered, Free}
 use Rattle.chains.specs.Indices.{insertRanked, remove, has}

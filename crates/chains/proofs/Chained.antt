@@ -3,7 +3,7 @@
 use Prim.Native.Nat.{ℕ, _≤_, _<_}
 use mathlib.Core.Path.{_≡_, refl, sym, ap, _∙_}
 use mathlib.Core.Logic.{_≢_}
-use mathlib.Core.List.{List, [], _∷_}
+use mathlib.Core.List.{List, _∷_}
 use native.Mathlib.Omega.{arith}
 use lib.Dec.{T}
 use lib.ListN.{length, getD, set, length-set}
@@ -20,7 +20,7 @@ use Rattle.chains.proofs.RankedSort.{has-insertRanked}
 use Rattle.chains.specs.Chained.{Chained, Kept, Outside, Ready, upd}
 use Rattle.book.specs.Chains.{startOf, nextOf, groupOf}
 use Rattle.book.specs.declared.StoreChain.{StoreChain}
-use Rattle.book.specs.declared.StoreChain.the-variants.{Ordered, Free}
+use Rattle.book.specs.declared.StoreChain.the-variants.{Free}
 use Rattle.chains.specs.Indices.{insertRanked, remove, has}
 use Rattle.chains.specs.Links.{Linked, Walk, place, spot, putIn, putOut}
 use Rattle.chains.specs.Records.{Record}

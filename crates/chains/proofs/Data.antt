@@ -10,7 +10,7 @@ use Rattle.book.specs.Words.{cell, recordWord}
 use Rattle.book.specs.Sizes.{headerLength, recordLength, storeLength}
 use Rattle.chains.proofs.Cells.{cell-least, cell-end, cell-plus, cell-injective}
 use Rattle.chains.proofs.Chained.{ready-set}
-use Rattle.chains.specs.Chained.{Chained, Ready}
+use Rattle.chains.specs.Chained.{Ready}
 use Rattle.book.specs.declared.StoreChain.{StoreChain}
 use Rattle.chains.specs.Records.{Record}
 

@@ -1,23 +1,17 @@
 -- A chain as the indices of a side's stops in the order of a rank.
-use Prim.Native.Nat.{ℕ, suc, _+_, _-_, _≤_}
-use native.Mathlib.Omega.{arith}
+use Prim.Native.Nat.{ℕ, _-_}
 use mathlib.Core.Path.{_≡_, refl, ap, _∙_}
-use mathlib.Core.Logic.{_≢_}
 use mathlib.Core.Bool.{Bool, true, false, cond}
 use mathlib.Core.List.{List, [], _∷_}
-use mathlib.Core.Option.{Option, none, some}
-use lib.ListN.{length, getD}
-use Rattle.pricelevel.specs.declared.Side.{Side}
-use Rattle.pricelevel.specs.declared.Side.the-variants.{Buy, Sell}
+use lib.ListN.{getD}
 use Rattle.book.proofs.Members.{members, gathered-held}
 use Rattle.book.proofs.Sort.{insert, sortBy-all}
-use Rattle.book.proofs.Lists.{all-map, all-getD, all-mapped}
+use Rattle.book.proofs.Lists.{all-map, all-getD}
 use Rattle.book.proofs.Lookup.{Gathered, gather-gathered}
 use Rattle.book.specs.Valid.{StopFits, SlotFits}
-use Rattle.book.specs.Book.{Slot, vacant, held, Book, chainSide, before, Pending, sideOf, withIndex, gather, sort, ofSide, pendingOn, chain, indices, earlierIn}
+use Rattle.book.specs.Book.{Slot, vacant, held, Book, chainSide, before, Pending, gather, sort, pendingOn, chain, indices, earlierIn}
 use Rattle.book.specs.Words.{chainIndices}
 use Rattle.book.specs.declared.Chain.{Chain}
-use Rattle.book.specs.declared.StopEntry.{StopEntry}
 use Rattle.chains.proofs.Ranks.{before-rank}
 use Rattle.chains.specs.Indices.{insertRanked, sortRanked}
 use Rattle.chains.specs.Rank.{rank}

@@ -1,6 +1,6 @@
 -- A walk along a chain: the state of a loop that stands at p, and what a step makes of it. What the loop is to find is
 -- `f head l`, for the whole chain l; at p it is `f p` of what is left of the chain.
-use Prim.Native.Nat.{ℕ, suc, _-_, _≤_, _<_}
+use Prim.Native.Nat.{ℕ, _-_, _≤_, _<_}
 use mathlib.Core.Path.{_≡_, ap, _∙_}
 use mathlib.Core.List.{List, [], _∷_}
 use native.Mathlib.Omega.{arith}

@@ -10,7 +10,6 @@ use lib.ListN.{length, getD, drop}
 use Rattle.pricelevel.specs.declared.Side.{Side}
 use Rattle.book.specs.Words.{recordWord}
 use Rattle.book.specs.Sizes.{storeLength, nextByWatermark, IsData}
-use Rattle.book.specs.declared.Chain.{Chain}
 use Rattle.book.specs.declared.Chain.the-variants.{ByStop, ByWatermark}
 use Rattle.chains.specs.Indices.{insertRanked, remove, has}
 use Rattle.chains.specs.Links.{Linked}

@@ -21,7 +21,6 @@ use pricelevel::Id;
 use store_calls::cancel_pending_stop;
 use stored_stops::entry_at;
 use stored_stops::find_id;
-ghost use mathlib.Core.Bool.{not};
 ghost use mathlib.Core.Path.{_≡_};
 ghost use Prim.Native.Nat.{_-_};
 ghost use Rattle.book.specs.Book.{Book};

@@ -28,7 +28,8 @@ use Rattle.pending_stops.specs.Stored.{Stored}
 use Rattle.store_words.specs.Search.{indexOr0}
 use Rattle.listing.proofs.Sets.{changed, changed-sets}
 use Rattle.listing.proofs.Walked.{stored-book}
-use Rattle.listing.specs.Entries.{fillWords, limitPresent, limitWord, electedWords, completed}
+use Rattle.book.specs.Entries.{limitPresent, limitWord, electedWords}
+use Rattle.listing.specs.ChainEntries.{fillWords, completed}
 
 ------------------------------------------------------------------------
 -- Whether an identity is pending

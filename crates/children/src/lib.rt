@@ -19,7 +19,8 @@ ghost use Rattle.book.specs.Book.{Book};
 ghost use Rattle.book.specs.Calls.{electedEntry};
 ghost use Rattle.book.specs.Evaluation.{Fill};
 ghost use Rattle.book.specs.Store.{isPending};
-ghost use Rattle.listing.specs.Entries.{fillWords, limitPresent, limitWord, electedWords, completed};
+ghost use Rattle.book.specs.Entries.{limitPresent, limitWord, electedWords};
+ghost use Rattle.listing.specs.ChainEntries.{fillWords, completed};
 ghost use Rattle.pending_stops.specs.Stored.{Stored};
 
 // ---------------------------------------------------------------------

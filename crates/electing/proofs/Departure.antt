@@ -1,27 +1,23 @@
 -- An elected stop leaves from the head of the stop chain, when it has left the watermark chain: what each step asks,
 -- and what the last one leaves.
-use Prim.Native.Nat.{ℕ, _-_, _≤_, _<_}
+use Prim.Native.Nat.{ℕ, _-_}
 use native.Mathlib.Omega.{arith}
 use mathlib.Core.Path.{_≡_, refl, sym, ap, subst, fun-ext, _∙_}
 use mathlib.Core.Logic.{_≢_}
-use mathlib.Core.List.{List, [], _∷_}
-use borrow.Author.Tests.{eqb-true, eqb-false}
-use borrow.Table.Steps.{cases}
-use lib.Dec.{T, eqb}
-use lib.ListN.{length, getD, set, replicate, length-set, List·getD-append}
-use lib.Seq.{getD-set-same, getD-set-other, sets}
+use mathlib.Core.List.{List, _∷_}
+use lib.Dec.{T}
+use lib.Seq.{sets}
 use Rattle.pricelevel.specs.declared.Price.{Price}
 use Rattle.pricelevel.specs.declared.Side.{Side}
 use Rattle.book.proofs.Operations.{vacated-valid, vacated-fits}
 use Rattle.book.proofs.Places.{slot-long, withLinks-watermark}
 use Rattle.book.specs.Steps.{takenOn}
-use Rattle.book.specs.Book.{Slot, vacant, Book, chainSide}
+use Rattle.book.specs.Book.{vacant, Book}
 use Rattle.book.specs.Store.{vacated}
 use Rattle.book.specs.Words.{chainIndices, cell, recordWord, dataWords}
-use Rattle.book.specs.Sizes.{recordLength, dataLength, nextByWatermark}
-use Rattle.book.specs.declared.Chain.{Chain}
+use Rattle.book.specs.Sizes.{nextByWatermark}
 use Rattle.book.specs.declared.Chain.the-variants.{ByStop, ByWatermark}
-use Rattle.chains.proofs.Data.{ready-sets, sets-word, sets-word-other, sets-header, sets-beyond}
+use Rattle.chains.proofs.Data.{ready-sets, sets-word}
 use Rattle.chains.proofs.Members.{has-here}
 use Rattle.chains.proofs.Names.{free-group, of-free, stop-watermark, upd-here, upd-other, upd-all, other-side}
 use Rattle.chains.specs.Chained.{Chained, Kept, Ready, upd}
@@ -32,7 +28,6 @@ use Rattle.chains.specs.Indices.{remove, has}
 use Rattle.chains.specs.Links.{Linked}
 use Rattle.chains.specs.Records.{Record}
 use Rattle.pending_stops.proofs.ChainChanges.{chain-member, vacated-absent, chain-out, chain-other}
-use Rattle.pending_stops.specs.Stored.{Contents}
 use Rattle.pending_stops.proofs.Unchained.{chainsWithout}
 use Rattle.pending_stops.proofs.StoredWords.{recordOf, recordOf-length, contents-kept, contents-written}
 use Rattle.electing.proofs.Elected.{First}

@@ -134,11 +134,6 @@ module _ (side : Side) (price : Price) where
     pub one-by-one : (b : Book) → Valid b → Fits b → P b
     one-by-one b v f = turns (length (electedIn side price b)) b v f refl
 
-  pub taken-valid : (b : Book) → Valid b → Fits b → Valid (takenOn side price b)
-  taken-valid =
-      one-by-one (λ b. Valid (takenOn side price b)) (λ b v f e. rw (taken-none side price b e) v)
-      (λ b v f i q h. rw (taken-step v f q) at h)
-
   -- as many fewer are pending
   pub taken-count : (b : Book) → Valid b → Fits b
       → pendingCount (b .slots) ≡ length (electedIn side price b) + pendingCount (takenOn side price b .slots)

@@ -12,18 +12,14 @@ use Rattle.stop_terms.specs.Terms.{electedAt}
 use Rattle.book.specs.Words.{cell, entryAt}
 use Rattle.book.specs.Sizes.{mostRecords, recordLength, storeLength}
 use Rattle.chains.proofs.Kept.{kept-trans, kept-entry}
-use Rattle.chains.proofs.OneChain.{linked-length}
-use Rattle.chains.proofs.Names.{name-stands, head-injective}
+use Rattle.chains.proofs.OneChain.{linked-length, From, linked-from, wordAfter-end}
+use Rattle.chains.proofs.Names.{name-stands, head-injective, upd-same}
 use Rattle.chains.specs.Chained.{Chained, Kept, upd}
 use Rattle.book.specs.Chains.{startOf, nextOf}
 use Rattle.book.specs.declared.StoreChain.{StoreChain}
-use Rattle.chains.specs.Links.{Linked, putOut}
+use Rattle.chains.specs.Links.{Linked, putOut, wordAfter}
 use Rattle.chains.specs.Records.{Record}
-use Rattle.chains.proofs.OneChain.{From, linked-from}
 use Rattle.electing.proofs.Fronts.{second-linked, second-place, kept-second, chained-second}
-use Rattle.chains.proofs.Names.{upd-same}
-use Rattle.chains.proofs.OneChain.{wordAfter-end}
-use Rattle.chains.specs.Links.{wordAfter}
 use Rattle.electing.specs.Elected.{unelected}
 
 module _ (price : Price) (w : List ℕ) (i : ℕ) (l : List ℕ) where

@@ -17,7 +17,7 @@ use Rattle.book.proofs.Lookup.{chain-in-book}
 use Rattle.book.proofs.SortedParts.{Part, never, Parted, parted, Met, Unmet, stops-apart, part-early, part-late}
 use Rattle.book.specs.Steps.{elect, electedIn, vacatedBy, stays, takenOn}
 use Rattle.book.specs.Valid.{Fits}
-use Rattle.book.specs.Book.{Slot, vacant, held, Book, chainSide, Pending, sideOf, ofSide, pendingOn, chain, indices}
+use Rattle.book.specs.Book.{Slot, vacant, held, Book, Pending, sideOf, ofSide, pendingOn, chain, indices}
 use Rattle.book.specs.Evaluation.{leavingOn}
 use Rattle.book.specs.Words.{chainIndices}
 use Rattle.book.specs.declared.Chain.the-variants.{ByStop}

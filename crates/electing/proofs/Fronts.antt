@@ -1,10 +1,9 @@
 -- A chain in two parts: where the second starts, and how its first record is taken out.
 use Prim.Native.Nat.{ℕ, _≤_, _<_}
 use native.Mathlib.Omega.{arith}
-use mathlib.Core.Path.{_≡_, refl, sym, ap, fun-ext, _∙_}
-use mathlib.Core.List.{List, [], _∷_, _++_}
+use mathlib.Core.Path.{_≡_, ap, _∙_}
+use mathlib.Core.List.{List, _∷_, _++_}
 use lib.Dec.{T}
-use Rattle.book.proofs.Sort.{Distinct}
 use Rattle.book.specs.Words.{cell}
 use Rattle.book.specs.Sizes.{storeLength}
 use Rattle.chains.proofs.Cells.{cell-below}

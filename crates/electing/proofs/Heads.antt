@@ -14,7 +14,7 @@ use Rattle.pricelevel.specs.declared.Side.{Side}
 use Rattle.stop_terms.specs.Terms.{electedAt}
 use Rattle.book.specs.Steps.{electedIn}
 use Rattle.book.specs.Valid.{Fits}
-use Rattle.book.specs.Book.{Book, chainSide}
+use Rattle.book.specs.Book.{Book}
 use Rattle.book.specs.Words.{chainIndices, entryAt}
 use Rattle.book.specs.declared.Chain.the-variants.{ByStop}
 use Rattle.chains.proofs.Members.{has-here}

@@ -14,7 +14,7 @@ use Rattle.pricelevel.specs.declared.Side.{Side}
 use Rattle.stop_terms.specs.Terms.{electedAt}
 use Rattle.book.specs.Steps.{electedIn, takenOn}
 use Rattle.book.specs.Valid.{Valid, Fits}
-use Rattle.book.specs.Book.{Slot, vacant, held, Book, chainSide}
+use Rattle.book.specs.Book.{Slot, vacant, held, Book}
 use Rattle.book.specs.Store.{vacated}
 use Rattle.book.specs.Words.{chainIndices, entryAt}
 use Rattle.book.specs.declared.Chain.the-variants.{ByWatermark}

@@ -4,7 +4,6 @@ use mathlib.Core.Path.{_≡_, refl, sym, ap, _∙_}
 use mathlib.Core.List.{List, [], _∷_}
 use native.Mathlib.Omega.{arith}
 use lib.ListN.{getD}
-use Rattle.error.specs.Answer.{Answer, refused, accepted}
 use Rattle.error.specs.Refusal.{refusalNumber}
 use Rattle.error.specs.Verdict.{toldVerdict}
 use Rattle.error.specs.declared.Refusal.{Refusal}

@@ -19,7 +19,7 @@ ghost use Rattle.error.specs.Questions.{firstNo};
 ghost use Rattle.error.specs.Answer.{accepted};
 ghost use Rattle.error.specs.Verdict.{toldVerdict};
 ghost use Rattle.book.specs.Answers.{toldPass};
-ghost use Rattle.listing.specs.Entries.{electedWords};
+ghost use Rattle.book.specs.Entries.{electedWords};
 
 // The questions of a pass: 1, 14, 15.
 pub fn ask_pass(s: &[u64], script: &[u64], elected: usize) -> Verdict
@@ -43,10 +43,10 @@ pub fn pass_over(
     elected: &mut [ElectedWords],
 ) -> PassCounts
     requires { ⌜ firstNo (passQuestions (now script) (now s) (length (now elected))) ≡ none ⌝ }
-    ensures { λ r. ⌜ accepted r ≡ passed settings (now (script .entry)) prints (now (s .entry)) .answer ⌝ }
-    ensures { λ _. ⌜ now (s .exit) ≡ passed settings (now (script .entry)) prints (now (s .entry)) .words ⌝ }
-    ensures { λ _. ⌜ now (elected .exit)
-        ≡ written (map electedWords (passed settings (now (script .entry)) prints (now (s .entry)) .elected)) (now (elected .entry)) ⌝ }
+    ensures { λ r. ⌜ (let o = passed settings (now (script .entry)) prints (now (s .entry)) in
+        (accepted r ≡ o .answer)
+        × (now (s .exit) ≡ o .words)
+        × (now (elected .exit) ≡ written (map electedWords (o .elected)) (now (elected .entry)))) ⌝ }
 {
     let n = s[0];
     let o = pass(s, n, settings, script, prints, elected);
@@ -67,10 +67,10 @@ pub fn evaluate_pending_stops(
     prints: PrintSegment,
     elected: &mut [ElectedWords],
 ) -> PassAnswer
-    ensures { λ r. ⌜ toldPass r ≡ passCall settings (now (script .entry)) prints (now (s .entry)) (length (now (elected .entry))) .answer ⌝ }
-    ensures { λ _. ⌜ now (s .exit) ≡ passCall settings (now (script .entry)) prints (now (s .entry)) (length (now (elected .entry))) .words ⌝ }
-    ensures { λ _. ⌜ now (elected .exit)
-        ≡ written (map electedWords (passCall settings (now (script .entry)) prints (now (s .entry)) (length (now (elected .entry))) .elected)) (now (elected .entry)) ⌝ }
+    ensures { λ r. ⌜ (let o = passCall settings (now (script .entry)) prints (now (s .entry)) (length (now (elected .entry))) in
+        (toldPass r ≡ o .answer)
+        × (now (s .exit) ≡ o .words)
+        × (now (elected .exit) ≡ written (map electedWords (o .elected)) (now (elected .entry)))) ⌝ }
 {
     let verdict = ask_pass(&s[..], script, elected.len());
     match verdict {

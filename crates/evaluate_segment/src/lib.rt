@@ -18,7 +18,7 @@ ghost use Rattle.book.specs.Calls.{written, segmentQuestions, segmentCall};
 ghost use Rattle.error.specs.Questions.{firstNo};
 ghost use Rattle.error.specs.Verdict.{toldVerdict};
 ghost use Rattle.book.specs.Answers.{toldCounts};
-ghost use Rattle.listing.specs.Entries.{electedWords, movedWords};
+ghost use Rattle.book.specs.Entries.{electedWords, movedWords};
 
 // The questions of a segment: 1, 14.
 fn ask_segment(s: &[u64], elected: usize, moved: usize) -> Verdict
@@ -43,12 +43,11 @@ pub fn segment(
     elected: &mut [ElectedWords],
     moved: &mut [MovedWords],
 ) -> EvaluationAnswer
-    ensures { λ r. ⌜ toldCounts r ≡ segmentCall settings prints (now (s .entry)) (length (now (elected .entry))) (length (now (moved .entry))) .answer ⌝ }
-    ensures { λ _. ⌜ now (s .exit) ≡ segmentCall settings prints (now (s .entry)) (length (now (elected .entry))) (length (now (moved .entry))) .words ⌝ }
-    ensures { λ _. ⌜ now (elected .exit)
-        ≡ written (map electedWords (segmentCall settings prints (now (s .entry)) (length (now (elected .entry))) (length (now (moved .entry))) .elected)) (now (elected .entry)) ⌝ }
-    ensures { λ _. ⌜ now (moved .exit)
-        ≡ written (map movedWords (segmentCall settings prints (now (s .entry)) (length (now (elected .entry))) (length (now (moved .entry))) .moved)) (now (moved .entry)) ⌝ }
+    ensures { λ r. ⌜ (let o = segmentCall settings prints (now (s .entry)) (length (now (elected .entry))) (length (now (moved .entry))) in
+        (toldCounts r ≡ o .answer)
+        × (now (s .exit) ≡ o .words)
+        × (now (elected .exit) ≡ written (map electedWords (o .elected)) (now (elected .entry)))
+        × (now (moved .exit) ≡ written (map movedWords (o .moved)) (now (moved .entry)))) ⌝ }
 {
     let verdict = ask_segment(&s[..], elected.len(), moved.len());
     match verdict {

@@ -18,7 +18,7 @@ ghost use Rattle.book.specs.Calls.{written, walkQuestions, walkCall};
 ghost use Rattle.error.specs.Questions.{firstNo};
 ghost use Rattle.error.specs.Verdict.{toldVerdict};
 ghost use Rattle.book.specs.Answers.{toldCounts};
-ghost use Rattle.listing.specs.Entries.{electedWords};
+ghost use Rattle.book.specs.Entries.{electedWords};
 ghost use Rattle.pricelevel.specs.Price.{toPrice};
 
 // The questions of a walk: 1, 14, 16.
@@ -45,10 +45,10 @@ pub fn walk(
     prices: &[u64],
     elected: &mut [ElectedWords],
 ) -> EvaluationAnswer
-    ensures { λ r. ⌜ toldCounts r ≡ walkCall settings prev (map toPrice (now (prices .entry))) (now (s .entry)) (length (now (elected .entry))) .answer ⌝ }
-    ensures { λ _. ⌜ now (s .exit) ≡ walkCall settings prev (map toPrice (now (prices .entry))) (now (s .entry)) (length (now (elected .entry))) .words ⌝ }
-    ensures { λ _. ⌜ now (elected .exit)
-        ≡ written (map electedWords (walkCall settings prev (map toPrice (now (prices .entry))) (now (s .entry)) (length (now (elected .entry))) .elected)) (now (elected .entry)) ⌝ }
+    ensures { λ r. ⌜ (let o = walkCall settings prev (map toPrice (now (prices .entry))) (now (s .entry)) (length (now (elected .entry))) in
+        (toldCounts r ≡ o .answer)
+        × (now (s .exit) ≡ o .words)
+        × (now (elected .exit) ≡ written (map electedWords (o .elected)) (now (elected .entry)))) ⌝ }
 {
     let verdict = ask_walk(&s[..], prices, elected.len());
     match verdict {

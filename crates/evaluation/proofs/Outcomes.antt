@@ -19,7 +19,8 @@ use Rattle.book.specs.declared.LastPrice.{LastPrice}
 use Rattle.book.specs.declared.PrintSegment.{PrintSegment}
 use Rattle.book.specs.declared.Settings.{Settings}
 use Rattle.listing.proofs.Sets.{sets-written, sets-over}
-use Rattle.listing.specs.Entries.{movedWords, fillWords, electedWords}
+use Rattle.book.specs.Entries.{movedWords, electedWords}
+use Rattle.listing.specs.ChainEntries.{fillWords}
 use Rattle.pending_stops.proofs.Found.{beyond, stored-words}
 use Rattle.pending_stops.specs.Stored.{Stored}
 use Rattle.evaluation.proofs.Questions.{segment-room, walk-room}
@@ -71,9 +72,9 @@ module _ (s : Settings) (prints : PrintSegment) (w : List ℕ) (elected moved : 
   after = segment (s .kill) prints (bookOf w)
 
   pub segment-refused : (k : ℕ) → some k ≡ firstNo (segmentQuestions w (length elected) (length moved))
-      → (refused k ≡ outcome .answer) × ((w ≡ outcome .words) × ((elected ≡ elected-after) × (moved ≡ moved-after)))
+      → (refused k ≡ outcome .answer) × (w ≡ outcome .words) × (elected ≡ elected-after) × (moved ≡ moved-after)
   unfolding segmentCall decide written
-  segment-refused k h = (rw (← h), (rw (← h), (rw (← h), rw (← h))))
+  segment-refused k h = rw (← h) (refl, refl, refl, refl)
 
   module _ (h : none ≡ firstNo (segmentQuestions w (length elected) (length moved))) (l1 : List (List ℕ))
       (filled : l1 ≡ sets elected 0 (map fillWords (after .fills))) where
@@ -85,19 +86,15 @@ module _ (s : Settings) (prints : PrintSegment) (w : List ℕ) (elected moved : 
         → c .elected ≡ length (after .fills)
         → m ≡ sets moved 0 (map movedWords (after .moved)) → Stored (getD w 0 0) u (after .book) (beyond w)
         → l2 ≡ sets l1 0 (map (λ f. electedWords (electedEntry s (after .book) f)) (after .fills))
-        → (accepted c ≡ outcome .answer) × ((u ≡ outcome .words) × ((l2 ≡ elected-after) × (m ≡ moved-after)))
+        → (accepted c ≡ outcome .answer) × (u ≡ outcome .words) × (l2 ≡ elected-after) × (m ≡ moved-after)
     unfolding segmentCall decide countsOf
-    segment-done c u l2 m moves count hm st h2 = (
-      rw (← h, ← moves, ← count),
-      (
-        rw (← h) (stored-words w u (after .book) st),
-        (
-          rw (← h) (completed s w elected _ after (segment-points (s .kill) prints (bookOf w))
-              (segment-room w _ _ h .0) l1 filled l2 h2),
-          rw (← h) (hm ∙ sets-written (map movedWords (after .moved)) moved
-              (rw length-map (omega (arith, segment-moves (s .kill) prints (bookOf w), segment-room w _ _ h .1)))),
-        ),
-      ),
+    segment-done c u l2 m moves count hm st h2 = rw (← h) (
+      rw (← moves, ← count),
+      stored-words w u (after .book) st,
+      completed s w elected _ after (segment-points (s .kill) prints (bookOf w)) (segment-room w _ _ h .0) l1 filled l2
+          h2,
+      hm ∙ sets-written (map movedWords (after .moved)) moved
+          (rw length-map (omega (arith, segment-moves (s .kill) prints (bookOf w), segment-room w _ _ h .1))),
     )
 
 ------------------------------------------------------------------------
@@ -114,9 +111,9 @@ module _ (s : Settings) (prev : LastPrice) (prices : List Price) (w : List ℕ) 
   walked = walk (s .kill) prev prices (bookOf w)
 
   pub walk-refused : (k : ℕ) → some k ≡ firstNo (walkQuestions prices w (length elected))
-      → (refused k ≡ outcome-walk .answer) × ((w ≡ outcome-walk .words) × (elected ≡ walk-after))
+      → (refused k ≡ outcome-walk .answer) × (w ≡ outcome-walk .words) × (elected ≡ walk-after)
   unfolding walkCall decide written
-  walk-refused k h = (rw (← h), (rw (← h), rw (← h)))
+  walk-refused k h = rw (← h) (refl, refl, refl)
 
   module _ (h : none ≡ firstNo (walkQuestions prices w (length elected))) (l1 : List (List ℕ))
       (filled : l1 ≡ sets elected 0 (map fillWords (walked .fills))) where
@@ -128,13 +125,11 @@ module _ (s : Settings) (prev : LastPrice) (prices : List Price) (w : List ℕ) 
         → c .elected ≡ length (walked .fills)
         → Stored (getD w 0 0) u (walked .book) (beyond w)
         → l2 ≡ sets l1 0 (map (λ f. electedWords (electedEntry s (walked .book) f)) (walked .fills))
-        → (accepted c ≡ outcome-walk .answer) × ((u ≡ outcome-walk .words) × (l2 ≡ walk-after))
+        → (accepted c ≡ outcome-walk .answer) × (u ≡ outcome-walk .words) × (l2 ≡ walk-after)
     unfolding walkCall decide countsOf
-    walk-done c u l2 moves count st h2 = (
-      rw (← h, ← moves, ← count),
-      (
-        rw (← h) (stored-words w u (walked .book) st),
-        rw (← h) (completed s w elected _ walked (walk-points (s .kill) prev prices (bookOf w))
-            (walk-room prices w _ h) l1 filled l2 h2),
-      ),
+    walk-done c u l2 moves count st h2 = rw (← h) (
+      rw (← moves, ← count),
+      stored-words w u (walked .book) st,
+      completed s w elected _ walked (walk-points (s .kill) prev prices (bookOf w)) (walk-room prices w _ h) l1 filled
+          l2 h2,
     )

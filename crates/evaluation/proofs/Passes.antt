@@ -1,11 +1,11 @@
 -- What a pass and a run answer and leave, refused and accepted.
-use Prim.Native.Nat.{ℕ, _≤_, _<_}
+use Prim.Native.Nat.{ℕ, _≤_}
 use native.Mathlib.Omega.{arith}
-use mathlib.Core.Path.{_≡_, sym, _∙_}
+use mathlib.Core.Path.{_≡_, refl, sym, _∙_}
 use mathlib.Core.Bool.{Bool, true, false, not, cond, _||_}
 use mathlib.Core.List.{List, map}
 use mathlib.Core.Option.{Option, none, some}
-use borrow.Author.Tests.{leb-true, le-leb, lt-leb, ne-eqb}
+use borrow.Author.Tests.{leb-true, ne-eqb}
 use borrow.Table.Steps.{cases}
 use lib.Dec.{eqb}
 use lib.ListN.{length, getD, length-map}
@@ -25,32 +25,10 @@ use Rattle.book.specs.declared.PrintPath.{PrintPath}
 use Rattle.book.specs.declared.PrintSegment.{PrintSegment}
 use Rattle.book.specs.declared.Settings.{Settings}
 use Rattle.listing.proofs.Sets.{sets-written}
-use Rattle.listing.specs.Entries.{electedWords}
+use Rattle.book.specs.Entries.{electedWords}
 use Rattle.pending_stops.proofs.Found.{beyond, stored-words}
 use Rattle.pending_stops.specs.Stored.{Stored}
 use Rattle.evaluation.proofs.Questions.{count-word}
-
-------------------------------------------------------------------------
--- The questions, from what the code asked
-
-pub pass-unformed : (script w : List ℕ) (elected : ℕ) → wellFormed w ≡ false
-    → some 1 ≡ firstNo (passQuestions script w elected)
-unfolding firstNo passQuestions
-pass-unformed script w elected e = rw e
-
-module _ (script w : List ℕ) (elected : ℕ) (e : wellFormed w ≡ true) where
-  pub pass-few-elected : elected < getD w 1 0 → some 14 ≡ firstNo (passQuestions script w elected)
-  unfolding firstNo passQuestions
-  pass-few-elected h = rw (e, lt-leb (pendingIn w) elected (rw (← count-word w e) h))
-
-  pub pass-no-script : getD w 1 0 ≤ elected → scriptFormed script ≡ false
-      → some 15 ≡ firstNo (passQuestions script w elected)
-  unfolding firstNo passQuestions
-  pass-no-script h g = rw (e, le-leb (pendingIn w) elected (rw (← count-word w e) h), g)
-
-  pub pass-asked : getD w 1 0 ≤ elected → scriptFormed script ≡ true → none ≡ firstNo (passQuestions script w elected)
-  unfolding firstNo passQuestions
-  pass-asked h g = rw (e, le-leb (pendingIn w) elected (rw (← count-word w e) h), g)
 
 ------------------------------------------------------------------------
 -- What the questions leave
@@ -77,8 +55,8 @@ module _ (s : Settings) (script : List ℕ) (prints : PrintSegment) (w : List �
 
   -- the call answers, and leaves of store and list
   abbrev pub PassLeaves : PassOutcome → PassCounts → List ℕ → List (List ℕ) → Type 0
-  PassLeaves o c u l = (accepted c ≡ o .answer)
-      × ((u ≡ o .words) × (l ≡ written (map electedWords (o .elected)) elected))
+  PassLeaves o c u l =
+      (accepted c ≡ o .answer) × (u ≡ o .words) × (l ≡ written (map electedWords (o .elected)) elected)
 
   pub passed-done : firstNo (passQuestions script w (length elected)) ≡ none
       → (c : PassCounts) (u : List ℕ) (l : List (List ℕ))
@@ -90,21 +68,18 @@ module _ (s : Settings) (script : List ℕ) (prints : PrintSegment) (w : List �
       let few : length (after .entries) ≤ length elected =
       omega (arith, pass-count s script prints (bookOf w), pass-elected script w (length elected) h) in (
         rw (← moves, ← count, ← used),
-        (
-          stored-words w u (after .book) st,
-          list
-              ∙ sets-written (map electedWords (after .entries)) elected (rw length-map few),
-        ),
+        stored-words w u (after .book) st,
+        list ∙ sets-written (map electedWords (after .entries)) elected (rw length-map few),
       )
 
   abbrev whole : PassOutcome
   whole = passCall s script prints w (length elected)
 
   pub pass-refused : (k : ℕ) → some k ≡ firstNo (passQuestions script w (length elected))
-      → (refused k ≡ whole .answer)
-      × ((w ≡ whole .words) × (elected ≡ written (map electedWords (whole .elected)) elected))
+      → (refused k ≡ whole .answer) × (w ≡ whole .words)
+      × (elected ≡ written (map electedWords (whole .elected)) elected)
   unfolding passCall decide written
-  pass-refused k h = (rw (← h), (rw (← h), rw (← h)))
+  pass-refused k h = rw (← h) (refl, refl, refl)
 
   pub pass-accepted-as : none ≡ firstNo (passQuestions script w (length elected))
       → (c : PassCounts) (u : List ℕ) (l : List (List ℕ))
@@ -136,9 +111,9 @@ module _ (s : Settings) (script : List ℕ) (trade : LastPrice) (w : List ℕ) (
   run-after = written (map electedWords (run .elected)) elected
 
   pub run-refused : (k : ℕ) → some k ≡ firstNo (passQuestions script w (length elected))
-      → (refused k ≡ run .answer) × ((path ≡ run .path) × ((w ≡ run .words) × (elected ≡ run-after)))
+      → (refused k ≡ run .answer) × (w ≡ run .words) × (elected ≡ run-after) × (path ≡ run .path)
   unfolding runCall decide written
-  run-refused k h = (rw (← h), (rw (← h), (rw (← h), rw (← h))))
+  run-refused k h = rw (← h) (refl, refl, refl, refl)
 
   module _ (h : none ≡ firstNo (passQuestions script w (length elected))) (next : Option PrintSegment)
       (is : next ≡ cond (eqb (getD w 1 0) 0 || not (path .«open»)) none (some (segmentOf path trade))) where
@@ -149,10 +124,10 @@ module _ (s : Settings) (script : List ℕ) (trade : LastPrice) (w : List ℕ) (
     next-is = rw (← count-word w (pass-formed script w (length elected) (sym h))) is
 
     pub run-idle : next ≡ none → (accepted (record { moves = 0; elected = 0; used = 0 }) ≡ run .answer)
-        × ((path ≡ run .path) × ((w ≡ run .words) × (elected ≡ run-after)))
+        × (w ≡ run .words) × (elected ≡ run-after) × (path ≡ run .path)
     unfolding runCall runOver decide written
     run-idle e =
-        cases idle (λ q. (rw (← h, q), (rw (← h, q), (rw (← h, q), rw (← h, q)))))
+        cases idle (λ q. rw (← h, q) (refl, refl, refl, refl))
         (λ q. let f : some (segmentOf path trade) ≡ none = sym (rw q at next-is)
         ∙ e in let z : _≡_ {A = ℕ} 0 1 = cc in absurd (omega arith))
 
@@ -160,7 +135,7 @@ module _ (s : Settings) (script : List ℕ) (trade : LastPrice) (w : List ℕ) (
         → (c : PassCounts) (u : List ℕ) (l : List (List ℕ)) (closing : PrintPath)
         → PassLeaves s script prints w elected (passed s script prints w) c u l
         → closing ≡ closed path
-        → (accepted c ≡ run .answer) × ((closing ≡ run .path) × ((u ≡ run .words) × (l ≡ run-after)))
+        → (accepted c ≡ run .answer) × (u ≡ run .words) × (l ≡ run-after) × (closing ≡ run .path)
     unfolding runCall runOver decide written
     run-taken prints e c u l closing d p =
         cases idle
@@ -169,4 +144,4 @@ module _ (s : Settings) (script : List ℕ) (trade : LastPrice) (w : List ℕ) (
         (λ q.
         let f : some (segmentOf path trade) ≡ some prints = sym (rw q at next-is) ∙ e in
         let g : prints ≡ segmentOf path trade = cc in
-        (rw (← h, q, ← g) (d .0), (rw (← h, q) p, (rw (← h, q, ← g) (d .1 .0), rw (← h, q, ← g) (d .1 .1)))))
+        rw (← h, q, ← g) (d .0, d .1, d .2, p))

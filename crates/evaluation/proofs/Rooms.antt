@@ -1,15 +1,14 @@
 -- What each call that evaluates lists, and that a list of more entries than a store has records changes nothing.
 use Prim.Native.Nat.{ℕ, _≤_, _*_, min, zero-le}
 use native.Mathlib.Omega.{arith}
-use mathlib.Core.Path.{_≡_, refl, sym, ap, _∙_}
-use mathlib.Core.Bool.{Bool, true, not, _||_}
-use mathlib.Core.List.{List, [], _∷_, _++_, map}
+use mathlib.Core.Path.{_≡_, refl, sym, _∙_}
+use mathlib.Core.Bool.{true, not, _||_}
+use mathlib.Core.List.{List, [], _∷_, map}
 use mathlib.Core.Option.{none}
 use borrow.Author.Tests.{le-leb, lt-leb, leb-true, leb-false}
 use borrow.Table.Steps.{cases}
 use lib.Dec.{leb, eqb}
 use lib.ListN.{length, length-map}
-use Rattle.error.specs.Answer.{Answer}
 use Rattle.pricelevel.specs.declared.IdKind.the-variants.{Uuid}
 use Rattle.pricelevel.specs.declared.Price.{Price}
 use Rattle.stop_trigger.specs.Child.{childId, idOf}
@@ -19,18 +18,15 @@ use Rattle.book.specs.Lists.{All}
 use Rattle.book.proofs.Passes.{passFrom-induction, pass-count}
 use Rattle.book.proofs.Questions.{decide-outcomes}
 use Rattle.book.specs.Book.{Book, pendingCount}
-use Rattle.book.specs.Calls.{electedEntry, electedEntries, written, countsOf, pendingIn, segmentQuestions, SegmentOutcome, segmentCall}
-use Rattle.book.specs.declared.Counts.{Counts}
-use Rattle.book.specs.declared.PassCounts.{PassCounts}
-use Rattle.book.specs.Calls.{ListOutcome, WalkOutcome, walkQuestions, walkCall, pass, PassOutcome, passQuestions, passed, passCall, RunOutcome, runOver, runCall}
-use Rattle.book.specs.Evaluation.{Fill, Evaluated, segment, walk}
+use Rattle.book.specs.Calls.{electedEntry, electedEntries, countsOf, pendingIn, segmentQuestions, SegmentOutcome, segmentCall}
+use Rattle.book.specs.Calls.{WalkOutcome, walkQuestions, walkCall, pass, PassOutcome, passQuestions, passed, passCall, RunOutcome, runOver, runCall}
+use Rattle.book.specs.Evaluation.{Fill, Evaluated, segment}
 use Rattle.book.specs.Path.{segmentOf}
 use Rattle.error.specs.Questions.{firstNo}
 use Rattle.book.specs.Words.{bookOf, wellFormed}
 use Rattle.book.specs.Sizes.{mostRecords}
 use Rattle.book.specs.declared.Elected.{Elected}
 use Rattle.book.specs.declared.LastPrice.{LastPrice}
-use Rattle.book.specs.declared.Moved.{Moved}
 use Rattle.book.specs.declared.PrintPath.{PrintPath}
 use Rattle.book.specs.declared.PrintSegment.{PrintSegment}
 use Rattle.book.specs.declared.Settings.{Settings}

@@ -3,7 +3,6 @@
 // it was shorter; a heading starts with #.
 use crate::files;
 ghost use Prim.Native.Nat.{_+_, _≤_};
-ghost use mathlib.Core.Path.{_≡_};
 ghost use lib.ListN.{length};
 
 // Writes a word as eight bytes, the lowest first.

@@ -1,8 +1,6 @@
 // A forecast on standard output: document 01's lines.
 use book::ElectedWords;
 use error::Refusal;
-ghost use Prim.Native.Nat.{_≤_};
-ghost use lib.ListN.{length};
 
 fn text(t: &[u8]) {
     io::write_all(1, t);

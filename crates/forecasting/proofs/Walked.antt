@@ -8,7 +8,7 @@ use Rattle.book.specs.declared.Counts.{Counts}
 use Rattle.book.specs.Sizes.{mostRecords}
 use Rattle.book.specs.declared.LastPrice.the-variants as last
 use Rattle.book.specs.declared.Settings.{Settings}
-use Rattle.listing.specs.Entries.{electedWords}
+use Rattle.book.specs.Entries.{electedWords}
 use Rattle.pricelevel.specs.Price.{toPrice}
 use Rattle.forecast_input.specs.Input.{wordsOf, storeIn, pricesIn, forecastSettings, forecastOf}
 

@@ -20,7 +20,7 @@ ghost use lib.ListN.{length};
 ghost use Rattle.book.specs.Calls.{written};
 ghost use Rattle.book.specs.Sizes.{mostRecords, storeLength, mostPrices};
 ghost use Rattle.book.specs.Answers.{toldCounts};
-ghost use Rattle.listing.specs.Entries.{electedWords};
+ghost use Rattle.book.specs.Entries.{electedWords};
 ghost use Rattle.forecast_input.specs.Input.{wordsOf, storeIn, pricesIn, forecastSettings, forecastOf};
 
 // The settings of a forecast: kill switch off, no collar, namespace zero.

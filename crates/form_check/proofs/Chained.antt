@@ -4,11 +4,11 @@ use Prim.Native.Nat.{ℕ, _≤_}
 use native.Mathlib.Omega.{arith}
 use mathlib.Core.Path.{_≡_, sym, ap, _∙_}
 use mathlib.Core.Bool.{true}
-use mathlib.Core.List.{List, [], _∷_}
+use mathlib.Core.List.{List}
 use lib.Dec.{ltb}
 use lib.ListN.{length, getD}
 use Rattle.book.proofs.FreeChain.{VacantFrom, vacantIndices-vacant, pendingCount-vacant}
-use Rattle.book.proofs.Sort.{Distinct, sortBy-parts, sortBy-length}
+use Rattle.book.proofs.Sort.{sortBy-parts, sortBy-length}
 use Rattle.book.proofs.Lists.{all-map, all-map-both}
 use Rattle.book.specs.Lists.{All}
 use Rattle.book.proofs.ReadBack.{slotsAt-length}
@@ -22,7 +22,7 @@ use Rattle.book.specs.Chains.{headOf, linkOf, startOf, nextOf, groupOf, Member}
 use Rattle.chains.specs.Rank.{rankAt}
 use Rattle.form_check.specs.Check.{groupCount, chainFormed}
 use Rattle.book.specs.declared.StoreChain.the-variants.{Ordered, Free}
-use Rattle.chains.proofs.Ascents.{Ascending, itself, sortRanked-within, within-sortRanked, sortRanked-ascending, ascending-distinct, ascending-within, ascending-alike}
+use Rattle.chains.proofs.Ascents.{Ascending, itself, sortRanked-within, within-sortRanked, sortRanked-ascending, ascending-within, ascending-alike}
 use Rattle.form_check.proofs.Groups.{group-member, group-vacant, vacant-group, member-group, member-rank, groupCount-members, vacantIndices-ascending, vacant-member, members-ranks}
 use Rattle.form_check.proofs.Counts.{groupCount-vacants}
 use Rattle.chains.proofs.Linked.{linked-freeFrom}
@@ -61,9 +61,6 @@ module _ (c : Chain) (ss : List Slot) where
     ordered-ascending : Ascending (rankIn c ss) (ordered c ss)
     unfolding ordered
     ordered-ascending = sortRanked-ascending (rankIn c ss) (members (chainSide c) 1 ss) (members-ranks c ss differ fits)
-
-    pub ordered-distinct : Distinct (ordered c ss)
-    ordered-distinct = ascending-distinct (rankIn c ss) (ordered c ss) ordered-ascending
 
 module _ (w : List ℕ) (n : ℕ) (differ : allDiffer (slotsAt w 1 n) ≡ true) (fits : All SlotFits (slotsAt w 1 n))
     (c : Chain) where

@@ -10,15 +10,15 @@ use lib.ListN.{length, getD, take, drop}
 use lib.Seq.{getD-take, length-take-le}
 use Rattle.pricelevel.proofs.Bools.{and-parts}
 use Rattle.pricelevel.specs.declared.Side.the-variants.{Buy, Sell}
-use Rattle.book.proofs.Lists.{all-map, all-getD, getD-all, every-all, all-every}
+use Rattle.book.proofs.Lists.{all-getD, getD-all, every-all, all-every}
 use Rattle.book.proofs.Places.{layout-header, layout-record}
 use Rattle.book.proofs.ReadBack.{slotsAt-length}
 use Rattle.book.specs.Valid.{SlotFits, Valid}
 use Rattle.book.proofs.WellFormed.{IsWord, WellFormed, bookOf-slots-length, wellFormed-parts, wellFormed-of, wellFormed-valid, wellFormed-layout}
-use Rattle.book.specs.Book.{Slot, vacant, chainSide, pendingCount}
+use Rattle.book.specs.Book.{Slot, vacant, pendingCount}
 use Rattle.book.specs.Lists.{headOr0, every, rising, All}
-use Rattle.book.specs.Words.{nextIn, chainIndices, header, recordWords, layout, recordWord, slotAt, slotsAt, bookOf, soundStop, allDiffer, wellFormed, dataWords, afterByStop, afterByWatermark, withLinks, cell}
-use Rattle.book.specs.Sizes.{headerLength, recordLength, mostRecords, storeLength, nextByStop}
+use Rattle.book.specs.Words.{nextIn, chainIndices, header, recordWords, layout, recordWord, slotAt, slotsAt, bookOf, soundStop, allDiffer, wellFormed, cell}
+use Rattle.book.specs.Sizes.{headerLength, recordLength, mostRecords, storeLength}
 use Rattle.book.specs.declared.Chain.{Chain}
 use Rattle.book.specs.declared.Chain.the-variants.{ByStop, ByWatermark}
 use Rattle.chains.specs.Links.{Linked}

@@ -12,7 +12,7 @@ use Rattle.pricelevel.specs.Identity.{kindNumber, sameId}
 use Rattle.pricelevel.specs.declared.Id.{Id}
 use Rattle.book.proofs.Differences.{SlotsDiffer, slotsDiffer-vacant, differs-parts, differs-of, allDiffer-parts, allDiffer-of}
 use Rattle.book.proofs.Lists.{every-all, all-every}
-use Rattle.book.specs.Lists.{rising, All}
+use Rattle.book.specs.Lists.{rising}
 use Rattle.book.specs.Words.{recordWord, entryAt, slotAt, slotsAt, allDiffer}
 use Rattle.form_check.specs.Check.{isZero}
 use Rattle.form_check.specs.Keys.{sameKey, Stop, apart, downFrom, newAt, keysDiffer}

@@ -10,11 +10,10 @@ use borrow.Table.Steps.{cases}
 use lib.Dec.{leb, eqb}
 use lib.ListN.{getD}
 use Rattle.pricelevel.proofs.Bools.{and-parts}
-use Rattle.pricelevel.specs.declared.Side.the-variants.{Sell}
 use Rattle.book.proofs.Lists.{every-all, all-every}
-use Rattle.book.specs.Book.{vacant, held, Book, chainSide, sideOf}
+use Rattle.book.specs.Book.{vacant, held, Book, sideOf}
 use Rattle.book.specs.Lists.{rising, All}
-use Rattle.book.specs.Words.{nextIn, chainIndices, recordWords, recordWord, entryAt, slotAt, soundStop, dataWords, afterByStop, afterByWatermark, withLinks, kindOf, sideFrom}
+use Rattle.book.specs.Words.{nextIn, recordWords, recordWord, entryAt, slotAt, soundStop, dataWords, afterByStop, afterByWatermark, withLinks, kindOf, sideFrom}
 use Rattle.book.specs.Sizes.{recordLength, nextByStop, nextByWatermark, IsData}
 use Rattle.book.specs.declared.Chain.the-variants.{ByStop, ByWatermark}
 use Rattle.book.specs.Chains.{nextOf, chainsOf}

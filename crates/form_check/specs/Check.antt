@@ -9,7 +9,7 @@ use lib.ListN.{length, getD}
 use Rattle.pricelevel.specs.Side.{sideNumber}
 use Rattle.pricelevel.specs.declared.Side.{Side}
 use Rattle.pricelevel.specs.declared.Side.the-variants.{Buy, Sell}
-use Rattle.book.specs.Book.{Slot, vacant, held, chainSide, sideOf, pendingCount}
+use Rattle.book.specs.Book.{Slot, held, pendingCount}
 use Rattle.book.specs.Lists.{every, rising}
 use Rattle.book.specs.Words.{cell, recordWord, entryAt, slotAt, slotsAt, soundStop, allDiffer}
 use Rattle.book.specs.Sizes.{headerLength, recordLength, mostRecords, storeLength, nextByStop}

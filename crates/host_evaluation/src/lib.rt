@@ -9,7 +9,7 @@ ghost use mathlib.Core.List.{map};
 ghost use mathlib.Core.Path.{_≡_};
 ghost use lib.ListN.{length};
 ghost use Rattle.book.specs.Calls.{written};
-ghost use Rattle.listing.specs.Entries.{electedWords, movedWords};
+ghost use Rattle.book.specs.Entries.{electedWords, movedWords};
 ghost use Rattle.host_words.specs.Answers.{Told, countsWords};
 ghost use Rattle.host_words.specs.ByWords.{segmentByWords, walkByWords};
 

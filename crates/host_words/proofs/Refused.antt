@@ -1,14 +1,13 @@
 -- A refused call alters nothing lent: document 01, The questions a call goes through. A call that takes a known path
 -- writes its words anew, so that it is shown here that a refused one writes those that came in.
 use Prim.Native.Nat.{ℕ, zero, suc}
-use mathlib.Core.Bool.{Bool, true, false, cond, not, _||_, _&&_}
+use mathlib.Core.Bool.{Bool, true, false, cond, _&&_}
 use mathlib.Core.List.{List, [], _∷_}
 use mathlib.Core.Option.{Option, none, some}
 use mathlib.Core.Path.{_≡_, refl, ap, _∙_}
 use native.Mathlib.Omega.{arith}
 use borrow.Author.Tests.{leb-true}
-use lib.Dec.{eqb, leb}
-use lib.ListN.{length}
+use lib.Dec.{leb}
 use Rattle.error.specs.Answer.{refused, accepted}
 use Rattle.pricelevel.proofs.Bools.{and-parts}
 use Rattle.pricelevel.specs.declared.Id.{Id}
@@ -21,7 +20,6 @@ use Rattle.book.specs.Store.{PathOutcome, admissionQuestions, admit, clear}
 use Rattle.book.specs.Words.{wellFormed}
 use Rattle.book.specs.declared.LastPrice.{LastPrice}
 use Rattle.book.specs.declared.PrintPath.{PrintPath}
-use Rattle.book.specs.declared.Settings.{Settings}
 use Rattle.host_words.specs.Answers.{pathWords}
 use Rattle.host_words.specs.Arguments.{isOn, idKnown, idOf, termsKnown, termsOf, lastPriceOf, pathKnown, pathOf, settingsOf}
 use Rattle.host_words.specs.ByWords.{unknown, hosted, RunOutcome, hostedRun, admitByWords, clearByWords, runByWords}

@@ -21,7 +21,7 @@ use Rattle.book.specs.declared.LastPrice.the-variants as last
 use Rattle.book.specs.declared.PrintPath.{PrintPath}
 use Rattle.book.specs.declared.PrintSegment.{PrintSegment}
 use Rattle.book.specs.declared.StopEntry.{StopEntry}
-use Rattle.listing.specs.Entries.{limitPresent, limitWord}
+use Rattle.book.specs.Entries.{limitPresent, limitWord}
 
 -- what a call returns: 0 where it is accepted, else document 01's number of the refusal
 unfoldable pub number : {A : Type 0} → Answer A → ℕ

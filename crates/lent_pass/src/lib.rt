@@ -25,10 +25,10 @@ pub fn evaluate_pending_stops(
     prints: PrintSegment,
     elected: &mut [Elected],
 ) -> PassAnswer
-    ensures { λ r. ⌜ toldPass r ≡ passCall settings (now (script .entry)) prints (now (s .entry)) (length (now (elected .entry))) .answer ⌝ }
-    ensures { λ _. ⌜ now (s .exit) ≡ passCall settings (now (script .entry)) prints (now (s .entry)) (length (now (elected .entry))) .words ⌝ }
-    ensures { λ _. ⌜ now (elected .exit)
-        ≡ written (passCall settings (now (script .entry)) prints (now (s .entry)) (length (now (elected .entry))) .elected) (now (elected .entry)) ⌝ }
+    ensures { λ r. ⌜ (let o = passCall settings (now (script .entry)) prints (now (s .entry)) (length (now (elected .entry))) in
+        (toldPass r ≡ o .answer)
+        × (now (s .exit) ≡ o .words)
+        × (now (elected .exit) ≡ written (o .elected) (now (elected .entry)))) ⌝ }
 {
     let mut words = [[0u64; ELECTED_WORDS]; MOST_RECORDS];
     let room = least(elected.len(), MOST_RECORDS);

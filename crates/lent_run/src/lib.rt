@@ -17,8 +17,8 @@ ghost use lib.ListN.{length};
 ghost use Rattle.book.specs.Answers.{toldPass};
 ghost use Rattle.book.specs.Calls.{written, runCall};
 ghost use Rattle.evaluation.specs.Counts.{passCount};
-ghost use Rattle.listing.specs.Entries.{electedWords};
-ghost use Rattle.lent_run.specs.Runs.{toldRun, ranTo};
+ghost use Rattle.book.specs.Entries.{electedWords};
+ghost use Rattle.lent_run.specs.Runs.{toldRun};
 
 // The path that a run begins with, and the last trade.
 struct Start {
@@ -34,11 +34,10 @@ fn run_words(
     start: Start,
     words: &mut [ElectedWords],
 ) -> StopRun
-    ensures { λ r. ⌜ toldRun r ≡ ranTo settings (now (script .entry)) start (now (s .entry)) (length (now (words .entry))) ⌝ }
-    ensures { λ _. ⌜ now (s .exit)
-        ≡ runCall settings (now (script .entry)) (start .trade) (now (s .entry)) (length (now (words .entry))) (start .path) .words ⌝ }
-    ensures { λ _. ⌜ now (words .exit)
-        ≡ written (map electedWords (runCall settings (now (script .entry)) (start .trade) (now (s .entry)) (length (now (words .entry))) (start .path) .elected)) (now (words .entry)) ⌝ }
+    ensures { λ r. ⌜ (let o = runCall settings (now (script .entry)) (start .trade) (now (s .entry)) (length (now (words .entry))) (start .path) in
+        (toldRun r ≡ (o .answer, o .path))
+        × (now (s .exit) ≡ o .words)
+        × (now (words .exit) ≡ written (map electedWords (o .elected)) (now (words .entry)))) ⌝ }
 {
     let path = start.path;
     let trade = start.trade;
@@ -61,11 +60,10 @@ fn run_listed(
     start: Start,
     elected: &mut [Elected],
 ) -> StopRun
-    ensures { λ r. ⌜ toldRun r ≡ ranTo settings (now (script .entry)) start (now (s .entry)) (length (now (elected .entry))) ⌝ }
-    ensures { λ _. ⌜ now (s .exit)
-        ≡ runCall settings (now (script .entry)) (start .trade) (now (s .entry)) (length (now (elected .entry))) (start .path) .words ⌝ }
-    ensures { λ _. ⌜ now (elected .exit)
-        ≡ written (runCall settings (now (script .entry)) (start .trade) (now (s .entry)) (length (now (elected .entry))) (start .path) .elected) (now (elected .entry)) ⌝ }
+    ensures { λ r. ⌜ (let o = runCall settings (now (script .entry)) (start .trade) (now (s .entry)) (length (now (elected .entry))) (start .path) in
+        (toldRun r ≡ (o .answer, o .path))
+        × (now (s .exit) ≡ o .words)
+        × (now (elected .exit) ≡ written (o .elected) (now (elected .entry)))) ⌝ }
 {
     let mut words = [[0u64; ELECTED_WORDS]; MOST_RECORDS];
     let room = least(elected.len(), MOST_RECORDS);
@@ -84,11 +82,11 @@ pub fn run_stop_triggers(
     trade: LastPrice,
     elected: &mut [Elected],
 ) -> PassAnswer
-    ensures { λ r. ⌜ toldPass r ≡ runCall settings (now (script .entry)) trade (now (s .entry)) (length (now (elected .entry))) (now (path .entry)) .answer ⌝ }
-    ensures { λ _. ⌜ now (path .exit) ≡ runCall settings (now (script .entry)) trade (now (s .entry)) (length (now (elected .entry))) (now (path .entry)) .path ⌝ }
-    ensures { λ _. ⌜ now (s .exit) ≡ runCall settings (now (script .entry)) trade (now (s .entry)) (length (now (elected .entry))) (now (path .entry)) .words ⌝ }
-    ensures { λ _. ⌜ now (elected .exit)
-        ≡ written (runCall settings (now (script .entry)) trade (now (s .entry)) (length (now (elected .entry))) (now (path .entry)) .elected) (now (elected .entry)) ⌝ }
+    ensures { λ r. ⌜ (let o = runCall settings (now (script .entry)) trade (now (s .entry)) (length (now (elected .entry))) (now (path .entry)) in
+        (toldPass r ≡ o .answer)
+        × (now (s .exit) ≡ o .words)
+        × (now (elected .exit) ≡ written (o .elected) (now (elected .entry)))
+        × (now (path .exit) ≡ o .path)) ⌝ }
 {
     let start = Start {
         path: *path,

@@ -14,7 +14,7 @@ use Rattle.book.specs.declared.PrintSegment.{PrintSegment}
 use Rattle.book.specs.declared.Settings.{Settings}
 use Rattle.evaluation.specs.Counts.{electedCount, movedCount}
 use Rattle.evaluation.proofs.Rooms.{segment-lists, segment-cut}
-use Rattle.listing.specs.Entries.{movedWords}
+use Rattle.book.specs.Entries.{movedWords}
 use Rattle.walks.proofs.Constants.{mostMoves}
 use Rattle.walks.proofs.WordCalls.{Left, Lists}
 use Rattle.word_rooms.proofs.Listings.{elected, moved, elects, shifts}

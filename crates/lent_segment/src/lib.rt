@@ -20,7 +20,7 @@ ghost use mathlib.Core.Path.{_≡_};
 ghost use lib.ListN.{length};
 ghost use Rattle.book.specs.Answers.{toldCounts};
 ghost use Rattle.book.specs.Calls.{written, segmentCall};
-ghost use Rattle.listing.specs.Entries.{movedWords};
+ghost use Rattle.book.specs.Entries.{movedWords};
 
 // A segment with the words of what it moves.
 fn segment_moving(
@@ -30,12 +30,11 @@ fn segment_moving(
     moved: &mut [MovedWords],
     elected: &mut [Elected],
 ) -> EvaluationAnswer
-    ensures { λ r. ⌜ toldCounts r ≡ segmentCall settings prints (now (s .entry)) (length (now (elected .entry))) (length (now (moved .entry))) .answer ⌝ }
-    ensures { λ _. ⌜ now (s .exit) ≡ segmentCall settings prints (now (s .entry)) (length (now (elected .entry))) (length (now (moved .entry))) .words ⌝ }
-    ensures { λ _. ⌜ now (moved .exit)
-        ≡ written (map movedWords (segmentCall settings prints (now (s .entry)) (length (now (elected .entry))) (length (now (moved .entry))) .moved)) (now (moved .entry)) ⌝ }
-    ensures { λ _. ⌜ now (elected .exit)
-        ≡ written (segmentCall settings prints (now (s .entry)) (length (now (elected .entry))) (length (now (moved .entry))) .elected) (now (elected .entry)) ⌝ }
+    ensures { λ r. ⌜ (let o = segmentCall settings prints (now (s .entry)) (length (now (elected .entry))) (length (now (moved .entry))) in
+        (toldCounts r ≡ o .answer)
+        × (now (s .exit) ≡ o .words)
+        × (now (moved .exit) ≡ written (map movedWords (o .moved)) (now (moved .entry)))
+        × (now (elected .exit) ≡ written (o .elected) (now (elected .entry)))) ⌝ }
 {
     let mut words = [[0u64; ELECTED_WORDS]; MOST_RECORDS];
     let room = least(elected.len(), MOST_RECORDS);
@@ -54,12 +53,11 @@ pub fn segment(
     elected: &mut [Elected],
     moved: &mut [Moved],
 ) -> EvaluationAnswer
-    ensures { λ r. ⌜ toldCounts r ≡ segmentCall settings prints (now (s .entry)) (length (now (elected .entry))) (length (now (moved .entry))) .answer ⌝ }
-    ensures { λ _. ⌜ now (s .exit) ≡ segmentCall settings prints (now (s .entry)) (length (now (elected .entry))) (length (now (moved .entry))) .words ⌝ }
-    ensures { λ _. ⌜ now (elected .exit)
-        ≡ written (segmentCall settings prints (now (s .entry)) (length (now (elected .entry))) (length (now (moved .entry))) .elected) (now (elected .entry)) ⌝ }
-    ensures { λ _. ⌜ now (moved .exit)
-        ≡ written (segmentCall settings prints (now (s .entry)) (length (now (elected .entry))) (length (now (moved .entry))) .moved) (now (moved .entry)) ⌝ }
+    ensures { λ r. ⌜ (let o = segmentCall settings prints (now (s .entry)) (length (now (elected .entry))) (length (now (moved .entry))) in
+        (toldCounts r ≡ o .answer)
+        × (now (s .exit) ≡ o .words)
+        × (now (elected .exit) ≡ written (o .elected) (now (elected .entry)))
+        × (now (moved .exit) ≡ written (o .moved) (now (moved .entry)))) ⌝ }
 {
     let mut words = [[0u64; MOVED_WORDS]; MOST_MOVES];
     let room = least(moved.len(), MOST_MOVES);

@@ -26,10 +26,10 @@ pub fn walk(
     prices: &[u64],
     elected: &mut [Elected],
 ) -> EvaluationAnswer
-    ensures { λ r. ⌜ toldCounts r ≡ walkCall settings prev (map toPrice (now (prices .entry))) (now (s .entry)) (length (now (elected .entry))) .answer ⌝ }
-    ensures { λ _. ⌜ now (s .exit) ≡ walkCall settings prev (map toPrice (now (prices .entry))) (now (s .entry)) (length (now (elected .entry))) .words ⌝ }
-    ensures { λ _. ⌜ now (elected .exit)
-        ≡ written (walkCall settings prev (map toPrice (now (prices .entry))) (now (s .entry)) (length (now (elected .entry))) .elected) (now (elected .entry)) ⌝ }
+    ensures { λ r. ⌜ (let o = walkCall settings prev (map toPrice (now (prices .entry))) (now (s .entry)) (length (now (elected .entry))) in
+        (toldCounts r ≡ o .answer)
+        × (now (s .exit) ≡ o .words)
+        × (now (elected .exit) ≡ written (o .elected) (now (elected .entry)))) ⌝ }
 {
     let mut words = [[0u64; ELECTED_WORDS]; MOST_RECORDS];
     let room = least(elected.len(), MOST_RECORDS);

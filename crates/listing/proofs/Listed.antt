@@ -12,7 +12,6 @@ use lib.Dec.{eqb}
 use Rattle.pricelevel.specs.declared.Price.{Price}
 use Rattle.pricelevel.specs.declared.Side.{Side}
 use Rattle.pricelevel.specs.declared.Side.the-variants.{Buy, Sell}
-use Rattle.stop_terms.specs.Terms.{behind}
 use Rattle.book.specs.Lists.{All}
 use Rattle.book.proofs.SortedParts.{AllStops}
 use Rattle.book.specs.Steps.{elect, electedIn}
@@ -24,7 +23,8 @@ use Rattle.book.specs.declared.Chain.the-variants.{ByStop, ByWatermark}
 use Rattle.book.specs.declared.StopEntry.{StopEntry}
 use Rattle.listing.proofs.Choices.{chosen, chosenOf, chosen-gather, chosen-sort}
 use Rattle.listing.proofs.Leaders.{leading, given, watermarkBehind, electedStop}
-use Rattle.listing.specs.Entries.{movedWords, fillWords, movesOf, fillOf, fillsOf}
+use Rattle.book.specs.Entries.{movedWords}
+use Rattle.listing.specs.ChainEntries.{fillWords, movesOf, fillOf, fillsOf}
 
 ------------------------------------------------------------------------
 -- Moves

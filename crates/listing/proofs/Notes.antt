@@ -15,7 +15,8 @@ use Rattle.stop_terms.specs.declared.StopTerms.{StopTerms}
 use Rattle.book.specs.Book.{sideOf, stopOf, seqOf}
 use Rattle.book.specs.Evaluation.{trailed}
 use Rattle.book.specs.declared.StopEntry.{StopEntry}
-use Rattle.listing.specs.Entries.{movedWords, fillWords, movesOf, fillOf, fillsOf}
+use Rattle.book.specs.Entries.{movedWords}
+use Rattle.listing.specs.ChainEntries.{fillWords, movesOf, fillOf, fillsOf}
 
 -- the entries es written into a list at a place, and the place after them
 abbrev pub Written : List (List ℕ) → ℕ → List (List ℕ) → ℕ → List (List ℕ) → Type 0

@@ -4,7 +4,7 @@ use native.Mathlib.Omega.{arith}
 use mathlib.Core.Path.{_≡_, refl, sym, ap, _∙_}
 use mathlib.Core.List.{List, [], _∷_, _++_, map}
 use lib.ListN.{length, getD, set, length-set}
-use lib.Seq.{getD-set-same, getD-set-other, set-set, set-comm, sets, sets-eq}
+use lib.Seq.{getD-set-same, set-set, set-comm, sets, sets-eq}
 use Rattle.book.proofs.Lists.{sets-append, getD-sets-before}
 use Rattle.book.specs.Calls.{written}
 

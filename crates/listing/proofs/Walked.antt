@@ -15,7 +15,7 @@ use Rattle.book.specs.Lists.{All}
 use Rattle.book.proofs.Lookup.{InBook, chain-in-book}
 use Rattle.book.proofs.ReadBack.{bookOf-layout}
 use Rattle.book.specs.Steps.{electedIn}
-use Rattle.book.specs.Book.{Book, chainSide, chain}
+use Rattle.book.specs.Book.{Book, chain}
 use Rattle.book.specs.Evaluation.{movedOn, fillAt}
 use Rattle.book.specs.Words.{chainIndices, bookOf}
 use Rattle.book.specs.Sizes.{headerLength}
@@ -34,7 +34,8 @@ use Rattle.listing.proofs.Along.{along, At, at-first}
 use Rattle.listing.proofs.Leaders.{Reads, along-chain, watermarkBehind, electedStop, watermarks-apart, elected-apart}
 use Rattle.listing.proofs.Listed.{given-movedOn, given-electedIn}
 use Rattle.listing.proofs.Notes.{Written}
-use Rattle.listing.specs.Entries.{movedWords, fillWords, movesOf, fillsOf}
+use Rattle.book.specs.Entries.{movedWords}
+use Rattle.listing.specs.ChainEntries.{fillWords, movesOf, fillsOf}
 
 ------------------------------------------------------------------------
 -- A store

@@ -24,7 +24,8 @@ ghost use Rattle.book.specs.Book.{Book};
 ghost use Rattle.book.specs.Evaluation.{movedOn, fillAt};
 ghost use Rattle.book.specs.Words.{entryAt};
 ghost use Rattle.chains.specs.Records.{Record};
-ghost use Rattle.listing.specs.Entries.{movedWords, fillWords, movesOf, fillOf};
+ghost use Rattle.book.specs.Entries.{movedWords};
+ghost use Rattle.listing.specs.ChainEntries.{fillWords, movesOf, fillOf};
 ghost use Rattle.pending_stops.specs.Stored.{Stored};
 
 // ---------------------------------------------------------------------

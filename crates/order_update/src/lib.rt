@@ -12,7 +12,6 @@ ghost use Prim.Native.Nat.{_+_, _-_, _<_, _^_};
 ghost use lib.Dec.{ltb};
 ghost use Rattle.book.specs.Book.{Book};
 ghost use Rattle.book.specs.Store.{changedTerms, changedQuantity, takesSequence, cancels, differsInPrice, withTerms, changedEntry};
-ghost use Rattle.book.specs.Store as store;
 
 // ---------------------------------------------------------------------
 // Cancel and change

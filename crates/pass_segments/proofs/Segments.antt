@@ -4,7 +4,7 @@ use mathlib.Core.List.{List, map, map-map}
 use mathlib.Core.Path.{_≡_, refl, sym, ap, _∙_}
 use native.Mathlib.Omega.{arith}
 use lib.ListN.{length, getD, length-map}
-use lib.Seq.{sets, length-sets}
+use lib.Seq.{sets}
 use Rattle.book.proofs.Walks.{segment-points, points-count}
 use Rattle.book.specs.Book.{Book, pendingCount}
 use Rattle.book.specs.Calls.{electedEntry, electedEntries, evaluatedIn, executedIn}
@@ -14,7 +14,8 @@ use Rattle.book.specs.declared.Elected.{Elected}
 use Rattle.book.specs.declared.PrintSegment.{PrintSegment}
 use Rattle.book.specs.declared.Settings.{Settings}
 use Rattle.listing.proofs.Sets.{sets-over}
-use Rattle.listing.specs.Entries.{fillWords, electedWords}
+use Rattle.book.specs.Entries.{electedWords}
+use Rattle.listing.specs.ChainEntries.{fillWords}
 use Rattle.pending_stops.specs.Stored.{Stored}
 use Rattle.points.proofs.PointsOnWords.{Does}
 use Rattle.script.proofs.Executions.{flags-written}

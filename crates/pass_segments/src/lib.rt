@@ -12,9 +12,9 @@ ghost use Prim.Native.Nat.{ℕ, _+_, _≤_};
 ghost use lib.ListN.{length};
 ghost use lib.Seq.{sets};
 ghost use Rattle.book.specs.Book.{Book, pendingCount};
-ghost use Rattle.book.specs.Calls.{electedEntries, pass, evaluatedIn, executedIn};
+ghost use Rattle.book.specs.Calls.{electedEntries, evaluatedIn, executedIn};
 ghost use Rattle.book.specs.Script.{scriptFormed};
-ghost use Rattle.listing.specs.Entries.{electedWords};
+ghost use Rattle.book.specs.Entries.{electedWords};
 ghost use Rattle.pending_stops.specs.Stored.{Stored};
 ghost use Rattle.script.specs.Queue.{Enqueued};
 

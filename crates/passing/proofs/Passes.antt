@@ -17,7 +17,7 @@ use Rattle.book.specs.Sizes.{mostRecords, scriptEntryLength}
 use Rattle.book.specs.declared.Elected.{Elected}
 use Rattle.book.specs.declared.PrintSegment.{PrintSegment}
 use Rattle.book.specs.declared.Settings.{Settings}
-use Rattle.listing.specs.Entries.{electedWords}
+use Rattle.book.specs.Entries.{electedWords}
 use Rattle.pending_stops.proofs.Found.{count-word}
 use Rattle.pending_stops.proofs.Contents.{stored-holds}
 use Rattle.pending_stops.specs.Stored.{Stored}

@@ -17,7 +17,7 @@ ghost use lib.Seq.{sets};
 ghost use Rattle.book.specs.Book.{Book, pendingCount};
 ghost use Rattle.book.specs.Calls.{pass};
 ghost use Rattle.book.specs.Script.{scriptFormed};
-ghost use Rattle.listing.specs.Entries.{electedWords};
+ghost use Rattle.book.specs.Entries.{electedWords};
 ghost use Rattle.pending_stops.specs.Stored.{Stored};
 
 // What a pass did: how many times a stop price became another, where the list of the elected goes on, and the script

@@ -3,7 +3,7 @@
 use Prim.Native.Nat.{ℕ, zero, suc, _+_, _-_, _≤_}
 use native.Mathlib.Omega.{arith}
 use native.Mathlib.Nat.{add-zero, add-suc, suc-add}
-use mathlib.Core.Path.{_≡_, refl, sym, ap, _∙_}
+use mathlib.Core.Path.{_≡_, sym, ap, _∙_}
 use mathlib.Core.Logic.{_≢_}
 use mathlib.Core.List.{List, [], _∷_}
 use mathlib.Core.Option.{Option, none, some}
@@ -21,11 +21,10 @@ use Rattle.book.specs.Store.{vacated}
 use Rattle.book.specs.Words.{chainIndices}
 use Rattle.book.specs.declared.Chain.{Chain}
 use Rattle.book.specs.declared.StopEntry.{StopEntry}
-use Rattle.chains.proofs.Members.{has-none, has-cases, has-all, all-has, has-remove, remove-here, remove-there, remove-absent}
+use Rattle.chains.proofs.Members.{has-none, has-all, all-has, has-remove, remove-here, remove-there, remove-absent}
 use Rattle.chains.proofs.RankedSort.{has-sortRanked, sortRanked-out, sortRanked-cong, remove-insertRanked}
 use Rattle.chains.specs.Indices.{insertRanked, sortRanked, remove, has, RanksDiffer}
-use Rattle.chains.proofs.Ascents.{Apart, differ-members}
-use Rattle.book.proofs.Sort.{Pairwise}
+use Rattle.chains.proofs.Ascents.{differ-members}
 use Rattle.form_check.proofs.Groups.{members-ranks}
 use Rattle.chains.proofs.Ranked.{rankOfSlot, rankIn, chain-members}
 use Rattle.book.proofs.Members.{members, members-held, held-member}

@@ -1,39 +1,32 @@
 -- The words of a book, as the operations see them: what the store says apart from its chains, and the five chains.
-use Prim.Native.Nat.{ℕ, zero, suc, _+_, _-_, _*_, _/_, _%_, _≤_, _<_}
+use Prim.Native.Nat.{ℕ, zero, suc, _+_, _-_, _≤_, _<_}
 use native.Mathlib.Omega.{arith}
-use native.Mathlib.Nat.{add-zero, add-suc, suc-add, div-add-mod', mod-lt}
 use mathlib.Core.Path.{_≡_, refl, sym, ap, _∙_}
 use mathlib.Core.Logic.{_≢_}
-use mathlib.Core.List.{List, [], _∷_, _++_}
-use borrow.Author.Tests.{ltb-true, ltb-false, eqb-true, eqb-false, eq-eqb, ne-eqb}
+use mathlib.Core.List.{List, _++_}
+use borrow.Author.Tests.{eqb-true, eqb-false}
 use borrow.Table.Steps.{cases}
-use lib.Dec.{T, ltb, eqb}
-use lib.ListN.{length, getD, drop, replicate, length-append, take-append-drop, List·getD-append}
-use lib.Seq.{getD-append-add, getD-drop, ext-getD, drop-at}
-use Rattle.pricelevel.specs.Identity.{kindNumber}
+use lib.Dec.{T, eqb}
+use lib.ListN.{length, getD, length-append, take-append-drop}
+use lib.Seq.{drop-at}
 use Rattle.pricelevel.specs.Side.{sideNumber}
-use Rattle.pricelevel.specs.declared.Side.{Side}
 use Rattle.pricelevel.specs.declared.Side.the-variants.{Buy, Sell}
 use Rattle.book.proofs.FreeChain.{VacantFrom, free-all-vacant}
 use Rattle.book.proofs.Places.{layout-length, layout-header, layout-record, slot-long, withLinks-stop, withLinks-watermark, recordWords-data}
 use Rattle.book.specs.Valid.{Valid, Fits}
-use Rattle.book.specs.Book.{Slot, vacant, held, Book, chainSide, sideOf, stopOf, watermarkOf, seqOf, pendingCount}
-use Rattle.book.specs.Lists.{headOr0, All}
-use Rattle.book.specs.Words.{nextIn, chainIndices, header, dataWords, afterByStop, afterByWatermark, withLinks, recordWords, layout, recordWord}
-use Rattle.book.proofs.Sort.{insertRising}
+use Rattle.book.specs.Book.{Slot, vacant, held, Book, chainSide, sideOf, pendingCount}
+use Rattle.book.specs.Lists.{headOr0}
+use Rattle.book.specs.Words.{nextIn, chainIndices, header, dataWords, afterByStop, afterByWatermark, recordWords, layout, recordWord}
 use Rattle.book.specs.Sizes.{headerLength, recordLength, storeLength, nextByStop, nextByWatermark, IsData}
 use Rattle.book.specs.declared.Chain.{Chain}
 use Rattle.book.specs.declared.Chain.the-variants.{ByStop, ByWatermark}
 use Rattle.book.specs.declared.StopEntry.{StopEntry}
 use Rattle.chains.proofs.Members.{has-all, all-has}
-use Rattle.chains.proofs.RankedSort.{has-sortRanked}
 use Rattle.chains.specs.Chained.{Chained}
-use Rattle.book.specs.Chains.{chainsOf, startOf, nextOf, groupOf, headOf, linkOf, Member}
+use Rattle.book.specs.Chains.{chainsOf, startOf, nextOf, groupOf, linkOf}
 use Rattle.book.specs.declared.StoreChain.{StoreChain}
 use Rattle.book.specs.declared.StoreChain.the-variants.{Ordered, Free}
-use Rattle.chains.specs.Indices.{insertRanked, sortRanked, has}
-use Rattle.chains.specs.Links.{Linked}
-use Rattle.chains.specs.Records.{Room}
+use Rattle.chains.specs.Indices.{has}
 use Rattle.chains.proofs.Ascents.{itself, sortRanked-within}
 use Rattle.form_check.proofs.Groups.{vacant-member}
 use Rattle.chains.proofs.Linked.{Names, linked-head, linked-names}

@@ -1,10 +1,10 @@
 -- A stop enters a store, in a record that is in no chain: its data words are stored, and it is linked in.
-use Prim.Native.Nat.{ℕ, _-_, _≤_, _<_}
+use Prim.Native.Nat.{ℕ, _-_}
 use native.Mathlib.Omega.{arith}
-use mathlib.Core.Path.{_≡_, refl, sym, _∙_}
+use mathlib.Core.Path.{_≡_, refl, sym}
 use mathlib.Core.List.{List}
-use lib.ListN.{length, getD, set, length-set}
-use lib.Seq.{getD-set-same, sets, length-sets}
+use lib.ListN.{set, length-set}
+use lib.Seq.{getD-set-same, sets}
 use Rattle.book.specs.Valid.{Valid, Fits}
 use Rattle.book.specs.Book.{Slot, vacant, held, Book, sideOf, pendingCount}
 use Rattle.book.specs.Words.{cell}
@@ -12,7 +12,6 @@ use Rattle.book.specs.declared.StopEntry.{StopEntry}
 use Rattle.chains.proofs.Data.{ready-sets}
 use Rattle.chains.specs.Chained.{Chained, Kept, Ready, within}
 use Rattle.book.specs.declared.StoreChain.{StoreChain}
-use Rattle.chains.specs.Records.{Record}
 use Rattle.book.specs.Chains.{Member}
 use Rattle.pending_stops.proofs.Unchained.{chainsWithout, linked-stored}
 use Rattle.pending_stops.proofs.StoredWords.{recordOf, recordOf-length, contents-written}

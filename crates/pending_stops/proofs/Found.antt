@@ -6,7 +6,7 @@ use mathlib.Core.Logic.{_≢_}
 use mathlib.Core.Bool.{true}
 use mathlib.Core.List.{List}
 use mathlib.Core.Option.{Option, none, some}
-use lib.ListN.{length, getD, drop}
+use lib.ListN.{getD, drop}
 use Rattle.pricelevel.specs.declared.Id.{Id}
 use Rattle.book.proofs.Lookup.{InBook, lookup-found}
 use Rattle.book.proofs.WellFormed.{wellFormed-valid, wellFormed-fits, wellFormed-layout, bookOf-slots-length}
@@ -15,7 +15,7 @@ use Rattle.book.specs.Store.{stored, storedBook, lookup}
 use Rattle.book.specs.Words.{entryAt, bookOf, wellFormed}
 use Rattle.book.specs.Sizes.{storeLength}
 use Rattle.book.specs.declared.StopEntry.{StopEntry}
-use Rattle.chains.specs.Records.{Room, Record}
+use Rattle.chains.specs.Records.{Record}
 use Rattle.book.specs.Chains.{Member}
 use Rattle.store_words.proofs.ChainsOf.{wellFormed-room}
 use Rattle.store_words.specs.Search.{indexOr0}

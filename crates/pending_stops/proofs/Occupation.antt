@@ -1,17 +1,17 @@
 -- A stop is taken into a store: what each step asks, and what the last one leaves.
-use Prim.Native.Nat.{ℕ, suc, _+_, _-_, _≤_, _<_, _^_}
+use Prim.Native.Nat.{ℕ, _+_, _-_, _≤_, _<_, _^_}
 use native.Mathlib.Omega.{arith}
 use native.Mathlib.Numerals.{add-one}
 use mathlib.Core.Path.{_≡_, refl, sym, ap, _∙_}
 use mathlib.Core.List.{List, [], _∷_}
 use lib.ListN.{length, getD, set, drop, length-set}
-use lib.Seq.{set-set, set-getD, getD-set-other, sets, length-sets}
+use lib.Seq.{set-set, set-getD, sets, length-sets}
 use Rattle.pricelevel.specs.declared.Id.{Id}
 use Rattle.pricelevel.specs.declared.Quantity.{Quantity}
 use Rattle.stop_terms.specs.declared.StopTerms.{StopTerms}
 use Rattle.book.proofs.FreeChain.{VacantFrom, free-count}
 use Rattle.book.proofs.Operations.{admitted-valid, admitted-fits, admitted-count}
-use Rattle.book.specs.Valid.{Valid, StopFits, Fits, Admissible}
+use Rattle.book.specs.Valid.{StopFits, Admissible}
 use Rattle.book.specs.Book.{Slot, vacant, held, Book, pendingCount}
 use Rattle.book.specs.Lists.{headOr0}
 use Rattle.book.specs.Store.{admitted, newEntry}

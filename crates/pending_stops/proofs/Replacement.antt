@@ -1,9 +1,9 @@
 -- A stop is changed in its record: what each step asks, and what the last one leaves.
-use Prim.Native.Nat.{ℕ, _-_, _≤_, _<_}
+use Prim.Native.Nat.{ℕ, _-_}
 use native.Mathlib.Omega.{arith}
 use mathlib.Core.Path.{_≡_, refl, sym, _∙_}
-use mathlib.Core.List.{List, []}
-use lib.ListN.{length, getD, set, length-set}
+use mathlib.Core.List.{List}
+use lib.ListN.{length, set, length-set}
 use lib.Seq.{set-set, sets, length-sets}
 use Rattle.pricelevel.specs.declared.Side.{Side}
 use Rattle.book.proofs.VacantIndices.{pendingCount-set}

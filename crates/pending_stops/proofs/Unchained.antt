@@ -1,15 +1,12 @@
 -- A record that is in no chain: how it comes to be so, and how the words become those of a book again.
-use Prim.Native.Nat.{ℕ, _+_, _-_, _≤_, _<_}
-use native.Mathlib.Omega.{arith}
+use Prim.Native.Nat.{ℕ, _-_}
 use mathlib.Core.Path.{_≡_, refl, sym, ap, subst, fun-ext, _∙_}
 use mathlib.Core.Logic.{_≢_}
-use mathlib.Core.List.{List, [], _∷_}
-use lib.Dec.{T}
-use lib.ListN.{length, getD, set, drop}
-use lib.Seq.{set-set, set-getD}
+use mathlib.Core.List.{List, _∷_}
+use lib.ListN.{set}
 use Rattle.pricelevel.specs.declared.Side.{Side}
 use Rattle.book.specs.Valid.{Valid, Fits}
-use Rattle.book.specs.Book.{Slot, vacant, held, Book, chainSide, sideOf, pendingCount, chain, indices}
+use Rattle.book.specs.Book.{Slot, vacant, Book, chainSide, pendingCount, chain, indices}
 use Rattle.book.specs.Store.{vacated}
 use Rattle.book.specs.Words.{chainIndices}
 use Rattle.book.specs.declared.Chain.{Chain}
@@ -21,12 +18,12 @@ use Rattle.chains.proofs.RankedSort.{insertRanked-cong}
 use Rattle.chains.specs.Chained.{Chained, Kept, On, Ready, upd, without, within}
 use Rattle.book.specs.declared.StoreChain.{StoreChain}
 use Rattle.book.specs.declared.StoreChain.the-variants.{Ordered, Free}
-use Rattle.chains.specs.Indices.{insertRanked, remove, has}
+use Rattle.chains.specs.Indices.{insertRanked, remove}
 use Rattle.chains.specs.Rank.{rankAt}
 use Rattle.chains.proofs.Ranked.{rankIn}
 use Rattle.book.specs.Chains.{Member, chainsOf}
 use Rattle.pending_stops.proofs.ChainChanges.{chain-member, member-chain, chain-out, chain-in, chain-other}
-use Rattle.pending_stops.proofs.Contents.{Holds, stored-holds, holds-stored}
+use Rattle.pending_stops.proofs.Contents.{holds-stored}
 use Rattle.pending_stops.proofs.StoredWords.{contents-kept, contents-rank}
 use Rattle.pending_stops.specs.Stored.{Stored, Contents}
 

@@ -1,5 +1,5 @@
 -- A stop is taken out of a store: what each step asks, and what the last one leaves.
-use Prim.Native.Nat.{ℕ, suc, _-_, _≤_, _<_}
+use Prim.Native.Nat.{ℕ, suc, _-_, _≤_}
 use native.Mathlib.Omega.{arith}
 use mathlib.Core.Path.{_≡_, _∙_}
 use mathlib.Core.List.{List, _∷_}
@@ -20,7 +20,7 @@ use Rattle.book.specs.declared.StoreChain.{StoreChain}
 use Rattle.book.specs.declared.StoreChain.the-variants.{Free}
 use Rattle.chains.specs.Records.{Record}
 use Rattle.book.specs.Chains.{Member, chainsOf}
-use Rattle.pending_stops.proofs.Contents.{Holds, stored-holds}
+use Rattle.pending_stops.proofs.Contents.{stored-holds}
 use Rattle.pending_stops.proofs.Unchained.{chainsWithout, side-on, unlinked-ready, pushed-stored}
 use Rattle.pending_stops.proofs.StoredWords.{recordOf, recordOf-length, contents-kept, contents-count, contents-written}
 use Rattle.pending_stops.specs.Stored.{Stored, Contents}

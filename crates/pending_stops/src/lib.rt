@@ -15,10 +15,8 @@ ghost use mathlib.Core.List.{List};
 ghost use mathlib.Core.Path.{_≡_};
 ghost use Prim.Native.Nat.{ℕ, _+_, _-_, _<_, _^_};
 ghost use Rattle.book.specs.Valid.{Valid, Fits, Admissible};
-ghost use Rattle.book.specs.Book.{Book, vacant, held};
+ghost use Rattle.book.specs.Book.{Book};
 ghost use Rattle.book.specs.Store.{vacated, admitted, newEntry};
-ghost use Rattle.book.specs.Words.{cell, dataWords};
-ghost use Rattle.chains.specs.Records.{Record};
 ghost use Rattle.book.specs.Chains.{Member};
 ghost use Rattle.pending_stops.specs.Stored.{Stored, replaced};
 

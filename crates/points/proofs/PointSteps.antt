@@ -15,7 +15,7 @@ use Rattle.book.proofs.Lists.{all-of, map-agree}
 use Rattle.book.proofs.Points.{gather-none, freed-append}
 use Rattle.book.specs.Steps.{isSide, trailedSlot, trailedOn, elect, electedIn, vacatedBy, stays, takenOn, other, firstSide, trailedBoth, electedBoth, takenBoth}
 use Rattle.book.proofs.Stops.{trailed-keeps}
-use Rattle.book.specs.Book.{Slot, vacant, held, Book, gather, sort, sideOf, stopOf, ofSide}
+use Rattle.book.specs.Book.{Slot, vacant, held, Book, gather, sideOf, stopOf, ofSide}
 use Rattle.book.specs.Evaluation.{trailed, leaves, vacatedIf, settled, leavingOn, leaver, electedOn, electedBy, freed, changedOn, mover}
 use Rattle.book.specs.Evaluation.{movedOn, movedBy, fillAt, point}
 use Rattle.book.specs.declared.StopEntry.{StopEntry}

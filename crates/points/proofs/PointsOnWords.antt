@@ -11,7 +11,7 @@ use Rattle.book.proofs.PointCounts.{point-count, point-moves}
 use Rattle.book.specs.Book.{Book, pendingCount}
 use Rattle.book.specs.Evaluation.{movedBy, fillAt, Evaluated, point, andThen}
 use Rattle.book.specs.Sizes.{mostRecords}
-use Rattle.listing.specs.Entries.{fillWords}
+use Rattle.listing.specs.ChainEntries.{fillWords}
 use Rattle.pending_stops.specs.Stored.{Stored}
 use Rattle.points.proofs.PointSteps.{point-fills, point-book, point-fills-killed, point-book-killed}
 use Rattle.points.proofs.Steps.{stored-few, run-on, ElectsBoth}

@@ -16,7 +16,8 @@ use Rattle.book.specs.Book.{Book, Pending, pendingCount}
 use Rattle.book.specs.Evaluation.{movedOn, movedBy, fillAt, point}
 use Rattle.book.specs.Sizes.{mostRecords}
 use Rattle.listing.proofs.Sets.{sets-on}
-use Rattle.listing.specs.Entries.{movedWords, fillWords}
+use Rattle.book.specs.Entries.{movedWords}
+use Rattle.listing.specs.ChainEntries.{fillWords}
 use Rattle.pending_stops.specs.Stored.{Stored}
 use Rattle.points.proofs.PointSteps.{point-moved}
 

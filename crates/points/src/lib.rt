@@ -15,7 +15,7 @@ ghost use lib.Seq.{sets};
 ghost use Rattle.book.specs.Steps.{electedIn, takenOn, other, trailedBoth, electedBoth, takenBoth};
 ghost use Rattle.book.specs.Book.{Book, pendingCount};
 ghost use Rattle.book.specs.Evaluation.{movedBy, fillAt, point};
-ghost use Rattle.listing.specs.Entries.{fillWords};
+ghost use Rattle.listing.specs.ChainEntries.{fillWords};
 ghost use Rattle.pending_stops.specs.Stored.{Stored};
 
 // ---------------------------------------------------------------------

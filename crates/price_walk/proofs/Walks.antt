@@ -13,7 +13,7 @@ use Rattle.book.specs.Evaluation.{Evaluated, point, sellsFirst, fallsTo, andThe
 use Rattle.book.specs.Sizes.{mostRecords}
 use Rattle.book.specs.declared.LastPrice.{LastPrice}
 use Rattle.book.specs.declared.LastPrice.the-variants as last
-use Rattle.listing.specs.Entries.{fillWords}
+use Rattle.listing.specs.ChainEntries.{fillWords}
 use Rattle.pending_stops.specs.Stored.{Stored}
 use Rattle.points.proofs.PointsOnWords.{Does, point-few, does-same, does-then}
 use Rattle.segments.proofs.TwoPoints.{then-none}

@@ -14,7 +14,7 @@ ghost use lib.Seq.{sets};
 ghost use Rattle.book.specs.Book.{Book, pendingCount};
 ghost use Rattle.book.specs.Sizes.{mostPrices};
 ghost use Rattle.book.specs.Evaluation.{point, walk};
-ghost use Rattle.listing.specs.Entries.{fillWords};
+ghost use Rattle.listing.specs.ChainEntries.{fillWords};
 ghost use Rattle.pending_stops.specs.Stored.{Stored};
 ghost use Rattle.pricelevel.specs.Price.{toPrice};
 

@@ -14,8 +14,6 @@ ghost use lib.ListN.{length};
 ghost use lib.Seq.{sets};
 ghost use Rattle.book.specs.Words.{cell, recordWord};
 ghost use Rattle.book.specs.Sizes.{mostRecords, recordLength};
-ghost use Rattle.chains.specs.Chained.{without};
-ghost use Rattle.chains.specs.Links.{place};
 ghost use Rattle.chains.specs.Rank.{pair, rankAt};
 ghost use Rattle.chains.specs.Records.{Record};
 ghost use Rattle.book.specs.Chains.{headOf, linkOf};

@@ -7,7 +7,7 @@ use native.Mathlib.Nat.{zero-add}
 use native.Mathlib.Numerals.{add-one}
 use native.Mathlib.Omega.{arith}
 use lib.ListN.{length, getD, set, drop, length-append, length-set}
-use lib.Seq.{drop-drop, sets, getD-set-same, getD-set-other}
+use lib.Seq.{drop-drop, sets, getD-set-same}
 use Rattle.book.proofs.Execution.{executeOne-segments, executeOne-used, executed-used, script-left, scriptFormed-length}
 use Rattle.book.specs.Script.{Executed, scriptFormed, executeOne, executed}
 use Rattle.book.specs.Sizes.{scriptEntryLength}

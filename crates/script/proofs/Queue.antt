@@ -3,10 +3,9 @@ use Prim.Native.Nat.{ℕ, suc, _+_, _≤_}
 use mathlib.Core.List.{List, [], _∷_, _++_, map, map-append}
 use mathlib.Core.Option.{none, some}
 use mathlib.Core.Path.{_≡_, refl, sym, ap, _∙_}
-use native.Mathlib.Nat.{add-zero, add-suc, suc-add}
 use native.Mathlib.Numerals.{add-one}
 use native.Mathlib.Omega.{arith}
-use lib.ListN.{length, getD, set, take, length-append, length-map}
+use lib.ListN.{length, getD, take, length-append, length-map}
 use lib.Seq.{slice, slice-empty, slice-cons, sets, sets-eq, length-sets, take-at, length-take-le, drop-append-le}
 use Rattle.book.proofs.Lists.{sets-append}
 use Rattle.book.specs.declared.LastPrice.{LastPrice}

@@ -14,7 +14,8 @@ use Rattle.book.specs.Book.{Book, pendingCount}
 use Rattle.book.specs.Evaluation.{Evaluated, movedBy, point, sellsFirst, fallsTo, andThen, walkFrom, segment}
 use Rattle.book.specs.declared.LastPrice.the-variants as last
 use Rattle.book.specs.declared.PrintSegment.{PrintSegment}
-use Rattle.listing.specs.Entries.{movedWords, fillWords}
+use Rattle.book.specs.Entries.{movedWords}
+use Rattle.listing.specs.ChainEntries.{fillWords}
 use Rattle.pending_stops.specs.Stored.{Stored}
 use Rattle.points.proofs.PointsOnWords.{Does, does-same, does-then}
 use Rattle.points.proofs.Steps.{run-on, ListsMoves}

@@ -17,7 +17,8 @@ ghost use lib.ListN.{length};
 ghost use lib.Seq.{sets};
 ghost use Rattle.book.specs.Book.{Book, pendingCount};
 ghost use Rattle.book.specs.Evaluation.{movedBy, point, segment};
-ghost use Rattle.listing.specs.Entries.{movedWords, fillWords};
+ghost use Rattle.book.specs.Entries.{movedWords};
+ghost use Rattle.listing.specs.ChainEntries.{fillWords};
 ghost use Rattle.pending_stops.specs.Stored.{Stored};
 ghost use Rattle.segments.specs.Segments.{secondPoint};
 

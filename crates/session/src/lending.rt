@@ -5,9 +5,6 @@ use session_text::numbers::four;
 use session_text::numbers::set;
 use session_text::numbers::word;
 use session_text::printing;
-ghost use Prim.Native.Nat.{_≤_};
-ghost use mathlib.Core.Path.{_≡_};
-ghost use lib.ListN.{length};
 
 // How many words and entries are lent, and what is shown of the store after a call.
 pub struct Desk {

@@ -16,9 +16,6 @@ use yubtomiq::yubtomiq_evaluate_pending_stops;
 use yubtomiq::yubtomiq_run_stop_triggers;
 use yubtomiq::yubtomiq_segment;
 use yubtomiq::yubtomiq_walk;
-ghost use Prim.Native.Nat.{_≤_};
-ghost use mathlib.Core.Path.{_≡_};
-ghost use lib.ListN.{length};
 
 // Whether some word of an entry is not as it was lent.
 fn wrote(entry: &[u64]) -> bool {

@@ -1,6 +1,5 @@
 // The names of lines. A name's number is its place among all; the lines that take alike are beside each other.
 use crate::numbers::place_of;
-ghost use Prim.Native.Nat.{_≤_};
 
 pub const TRAILED: u64 = 0;
 

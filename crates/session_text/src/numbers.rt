@@ -1,6 +1,5 @@
 // Text read: a byte looked for, the numbers of a line, and groups of them.
 ghost use Prim.Native.Nat.{_≤_};
-ghost use mathlib.Core.Path.{_≡_};
 ghost use lib.ListN.{length};
 
 // The first place, from one on, that holds a byte; the end of the text if none does.

@@ -1,6 +1,4 @@
 // Text and numbers on standard output.
-ghost use Prim.Native.Nat.{_≤_};
-ghost use lib.ListN.{length};
 
 pub fn text(t: &[u8]) {
     io::write_all(1, t);

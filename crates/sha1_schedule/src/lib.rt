@@ -4,7 +4,7 @@ ghost use mathlib.Core.Path.{_≡_};
 ghost use Prim.Native.Nat.{_+_, _-_, _*_, _/_, _%_, _^_, _≤_, _<_};
 ghost use mathlib.Core.List.{_++_};
 ghost use lib.ListN.{length, getD};
-ghost use Rattle.fips180.specs.Fips.{rotl, blockCount, pad, wordAt, nextWord, schedule, block, octets};
+ghost use Rattle.fips180.specs.Fips.{rotl, blockCount, pad, wordAt, nextWord, schedule};
 
 // Octet j of the length in bits of a message of n octets. The shift drops what is above 64 bits.
 fn length_octet(n: usize, j: usize) -> u8

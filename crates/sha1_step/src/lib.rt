@@ -1,9 +1,9 @@
 // One step of SHA-1, and the sum of a block's result with the hash value.
 use fips180::State;
 ghost use mathlib.Core.Path.{_≡_};
-ghost use Prim.Native.Nat.{_+_, _-_, _/_, _%_, _^_, _<_};
+ghost use Prim.Native.Nat.{_+_, _-_, _%_, _^_, _<_};
 ghost use Rattle.fips180.specs.declared.State.{State};
-ghost use Rattle.fips180.specs.Fips.{rotl, f, K, schedule, step, sums, block};
+ghost use Rattle.fips180.specs.Fips.{rotl, f, K, step, sums};
 
 // x rotated to the left by n places.
 pub fn rotl(n: u32, x: u32) -> u32

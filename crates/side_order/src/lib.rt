@@ -4,7 +4,7 @@ use pricelevel::Price;
 use pricelevel::Side;
 ghost use mathlib.Core.Path.{_≡_};
 ghost use Rattle.book.specs.Steps.{other, firstSide};
-ghost use Rattle.book.specs.Evaluation.{point, sellsFirst, fallsTo};
+ghost use Rattle.book.specs.Evaluation.{sellsFirst, fallsTo};
 
 // ---------------------------------------------------------------------
 // The steps of a point

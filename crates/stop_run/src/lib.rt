@@ -21,7 +21,7 @@ ghost use lib.ListN.{length};
 ghost use Rattle.book.specs.Calls.{written, runCall};
 ghost use Rattle.book.specs.Path.{segmentOf};
 ghost use Rattle.book.specs.Answers.{toldPass};
-ghost use Rattle.listing.specs.Entries.{electedWords};
+ghost use Rattle.book.specs.Entries.{electedWords};
 ghost use Rattle.print_path.specs.Segments.{toldNext};
 
 // The segment that a run takes, if stops are pending and the path is open.
@@ -45,11 +45,11 @@ pub fn run_stop_triggers(
     trade: LastPrice,
     elected: &mut [ElectedWords],
 ) -> StopRun
-    ensures { λ r. ⌜ toldPass (r .answer) ≡ runCall settings (now (script .entry)) trade (now (s .entry)) (length (now (elected .entry))) path .answer ⌝ }
-    ensures { λ r. ⌜ r .path ≡ runCall settings (now (script .entry)) trade (now (s .entry)) (length (now (elected .entry))) path .path ⌝ }
-    ensures { λ _. ⌜ now (s .exit) ≡ runCall settings (now (script .entry)) trade (now (s .entry)) (length (now (elected .entry))) path .words ⌝ }
-    ensures { λ _. ⌜ now (elected .exit)
-        ≡ written (map electedWords (runCall settings (now (script .entry)) trade (now (s .entry)) (length (now (elected .entry))) path .elected)) (now (elected .entry)) ⌝ }
+    ensures { λ r. ⌜ (let o = runCall settings (now (script .entry)) trade (now (s .entry)) (length (now (elected .entry))) path in
+        (toldPass (r .answer) ≡ o .answer)
+        × (now (s .exit) ≡ o .words)
+        × (now (elected .exit) ≡ written (map electedWords (o .elected)) (now (elected .entry)))
+        × (r .path ≡ o .path)) ⌝ }
 {
     let verdict = ask_pass(&s[..], script, elected.len());
     match verdict {

@@ -1,17 +1,17 @@
 -- Laws of a stop's terms. Two sides are one order, `behind`; the candidate has three laws, and nothing else opens it.
-use Prim.Native.Nat.{ℕ, _≤_, _+_, _-_, _^_, min, max}
-use mathlib.Core.Path.{_≡_, refl, sym, ap, _∙_}
-use mathlib.Core.Bool.{Bool, true, false, not, cond}
+use Prim.Native.Nat.{ℕ, _≤_, _+_, _-_, _^_}
+use mathlib.Core.Path.{_≡_, refl}
+use mathlib.Core.Bool.{true, false, not, cond}
 use mathlib.Core.Option.{Option, none, some}
 use native.Mathlib.Omega.{arith}
-use borrow.Author.Tests.{ltb-true, ltb-false, leb-true, leb-false, lt-ltb, le-ltb, le-leb, lt-leb}
+use borrow.Author.Tests.{ltb-true, ltb-false, leb-true, lt-ltb, le-ltb, le-leb, lt-leb}
 use borrow.Table.Steps.{cases}
 use lib.Dec.{leb, ltb, eqb}
 use Rattle.pricelevel.specs.declared.Price.{Price}
 use Rattle.pricelevel.specs.declared.Side.{Side}
 use Rattle.pricelevel.specs.declared.Side.the-variants.{Buy, Sell}
 use Rattle.stop_terms.specs.declared.StopTerms.{StopTerms}
-use Rattle.stop_terms.specs.Terms.{behind, candidate, tightened, ratcheted, trailedAt, elects, electedAt, beyond, inconsistencyOf, inconsistencyNumber}
+use Rattle.stop_terms.specs.Terms.{behind, candidate, tightened, ratcheted, trailedAt, elects, beyond, inconsistencyOf, inconsistencyNumber}
 
 pub ruleset tests = (ltb-true, ltb-false, lt-ltb, le-ltb)
 

@@ -1,6 +1,6 @@
 -- What clear and the totals answer and leave.
 use Prim.Native.Nat.{ℕ, _≤_}
-use mathlib.Core.Path.{_≡_, refl, sym, ap, _∙_}
+use mathlib.Core.Path.{_≡_}
 use mathlib.Core.Bool.{true, false}
 use mathlib.Core.List.{List}
 use lib.ListN.{getD}
@@ -9,13 +9,9 @@ use Rattle.book.specs.declared.Totals.{Totals}
 use Rattle.book.proofs.WellFormed.{wellFormed-valid, bookOf-slots-length}
 use Rattle.book.specs.Path.{closed}
 use Rattle.error.specs.Questions.{firstNo, decide}
-use Rattle.book.specs.Store.{PathOutcome, stored, storedBook, emptyBook, clear, pendingQuantity}
-use Rattle.book.specs.Store as store
+use Rattle.book.specs.Store.{stored, storedBook, emptyBook, clear, pendingQuantity, totalsOf}
 use Rattle.book.specs.Words.{bookOf, slotsAt, wellFormed}
 use Rattle.book.specs.declared.PrintPath.{PrintPath}
-use Rattle.chains.specs.Records.{Room}
-use Rattle.store_words.proofs.ChainsOf.{wellFormed-room}
-use Rattle.book.specs.Store.{totalsOf}
 
 pub some-records : (w : List ℕ) → wellFormed w ≡ true → 1 ≤ getD w 0 0
 some-records w e = rw (← bookOf-slots-length w) (wellFormed-valid w e .some-records)

@@ -15,12 +15,10 @@ use print_path::closed;
 use store_layout::lay_out;
 use stored_stops::entry_at;
 use stored_stops::find_id;
-ghost use mathlib.Core.Bool.{not};
 ghost use mathlib.Core.Path.{_≡_};
 ghost use Prim.Native.Nat.{_-_};
 ghost use Rattle.book.specs.Path.{closed};
 ghost use Rattle.book.specs.Store.{clear, find, cancel, pendingQuantity};
-ghost use Rattle.book.specs.Store as store;
 ghost use Rattle.book.specs.Answers.{toldLayout, toldStop, toldFind, toldQuantity};
 
 // ---------------------------------------------------------------------

@@ -18,7 +18,6 @@ ghost use Rattle.chains.specs.Chained.{Chained, Kept, Outside, On, Ready, upd, 
 ghost use Rattle.book.specs.declared.StoreChain.{StoreChain};
 ghost use Rattle.book.specs.declared.StoreChain.the-variants.{Ordered, Free};
 ghost use Rattle.chains.specs.Indices.{insertRanked, remove, has};
-ghost use Rattle.chains.specs.Links.{place};
 ghost use Rattle.chains.specs.Rank.{rankAt};
 
 // ---------------------------------------------------------------------

@@ -7,7 +7,7 @@ use mathlib.Core.List.{List, [], _∷_, _++_}
 use lib.ListN.{length, getD, drop}
 use Rattle.book.proofs.Chains.{layout-head, layout-next}
 use Rattle.book.proofs.Lists.{all-map, all-map-both}
-use Rattle.book.proofs.Members.{Belongs, belongs-range, chainsOf-belong, chainsOf-distinct, chainIndices-length}
+use Rattle.book.proofs.Members.{Belongs, belongs-range, chainsOf-belong, chainsOf-distinct}
 use Rattle.book.proofs.ReadBack.{nextIn-here, nextIn-there}
 use Rattle.book.proofs.Sort.{Distinct}
 use Rattle.book.proofs.WellFormed.{wellFormed-parts, wellFormed-valid, wellFormed-layout, bookOf-slots-length}
@@ -16,8 +16,7 @@ use Rattle.book.specs.Chains.{startOf, nextOf, chainsOf}
 use Rattle.book.specs.Lists.{headOr0, All}
 use Rattle.book.specs.Sizes.{storeLength}
 use Rattle.book.specs.Valid.{Valid}
-use Rattle.book.specs.Words.{nextIn, chainIndices, layout, cell, recordWord, bookOf, wellFormed}
-use Rattle.book.specs.declared.Chain.{Chain}
+use Rattle.book.specs.Words.{nextIn, layout, cell, recordWord, bookOf, wellFormed}
 use Rattle.book.specs.declared.StoreChain.{StoreChain}
 use Rattle.chains.specs.Links.{Linked}
 use Rattle.chains.specs.Records.{Room}
@@ -73,6 +72,3 @@ module _ (w : List ℕ) (e : wellFormed w ≡ true) where
   wellFormed-linked a =
       layout-linked-words (nextOf a) (startOf a) (chainsOf (bookOf w) a)
       (layout-linked (bookOf w) _ (wellFormed-valid w e) a)
-
-  pub wellFormed-chain-length : (c : Chain) → length (chainIndices c (bookOf w)) ≤ getD w 0 0
-  wellFormed-chain-length c = rw (bookOf-slots-length w) at (chainIndices-length c (bookOf w))

@@ -1,22 +1,20 @@
 -- The words of an empty store, laid out from the front.
-use Prim.Native.Nat.{ℕ, zero, suc, _+_, _-_, _*_, _≤_, _<_}
+use Prim.Native.Nat.{ℕ, zero, suc, _+_, _-_, _≤_, _<_}
 use mathlib.Core.Path.{_≡_, refl, sym, ap, _∙_}
 use mathlib.Core.Bool.{Bool, true, false, _&&_}
 use mathlib.Core.List.{List, [], _∷_, _++_, append-nil}
-use native.Mathlib.Nat.{add-suc}
-use native.Mathlib.Numerals.{add-one}
 use native.Mathlib.Omega.{arith}
 use borrow.Author.Tests.{leb-true, eqb-true, eqb-false}
 use borrow.Table.Steps.{cases}
 use lib.Dec.{leb, eqb}
-use lib.ListN.{length, getD, take, drop, set, replicate, length-replicate, length-append, length-take, length-drop, getD-replicate}
+use lib.ListN.{length, getD, take, drop, replicate, length-replicate, length-drop, getD-replicate}
 use lib.Seq.{sets, length-sets, sets-eq, length-take-le, length-front, take-all, take-at, take-add, drop-append-add, drop-drop, getD-take, getD-drop, ext-getD}
 use Rattle.error.specs.Answer.{refused, accepted}
 use Rattle.pricelevel.proofs.Bools.{and-parts}
 use Rattle.pricelevel.specs.declared.Side.the-variants.{Buy, Sell}
 use Rattle.book.proofs.Operations.{emptyBook-length}
 use Rattle.book.proofs.Places.{recordWords-length, layout-length, layout-record}
-use Rattle.book.specs.Book.{Slot, vacant, Book, chainSide, withIndex, gather, sort, pendingOn, chain, indices, pendingCount}
+use Rattle.book.specs.Book.{vacant, Book, chainSide, withIndex, gather, pendingOn, chain, indices, pendingCount}
 use Rattle.book.specs.Lists.{headOr0, rising, sortBy}
 use Rattle.error.specs.Questions.{firstNo, decide}
 use Rattle.book.specs.Store.{stored, emptyBook, layOut}

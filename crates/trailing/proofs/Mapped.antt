@@ -10,14 +10,13 @@ use Rattle.pricelevel.proofs.Bools.{and-parts}
 use Rattle.pricelevel.specs.declared.Side.{Side}
 use Rattle.pricelevel.specs.declared.Side.the-variants.{Buy, Sell}
 use Rattle.book.proofs.Lists.{every-all, all-every, all-mapped}
-use Rattle.book.proofs.Sort.{Pairwise}
 use Rattle.book.specs.Valid.{Valid, SlotFits, Fits}
 use Rattle.book.specs.Book.{Slot, vacant, held, Book, chainSide, sideOf, withIndex, gather, ofSide, pendingOn, indices, pendingCount}
 use Rattle.book.specs.Lists.{every}
 use Rattle.book.specs.Words.{chainIndices, soundStop, differs, allDiffer, vacantIndices}
 use Rattle.book.specs.declared.Chain.{Chain}
 use Rattle.book.specs.declared.StopEntry.{StopEntry}
-use Rattle.chains.proofs.Members.{has-none, has-cases, all-has}
+use Rattle.chains.proofs.Members.{all-has}
 use Rattle.chains.proofs.RankedSort.{has-sortRanked, sortRanked-cong}
 use Rattle.chains.specs.Indices.{sortRanked, has, RanksDiffer}
 use Rattle.chains.specs.Rank.{rankAt}

@@ -9,11 +9,10 @@ use lib.ListN.{length, getD, length-map}
 use Rattle.pricelevel.specs.declared.Price.{Price}
 use Rattle.pricelevel.specs.declared.Side.{Side}
 use Rattle.pricelevel.specs.declared.Side.the-variants.{Buy, Sell}
-use Rattle.book.proofs.Sort.{sortBy-length}
+use Rattle.book.proofs.Sort.{sortBy-length, insert}
 use Rattle.book.proofs.Lookup.{InBook, chain-in-book}
-use Rattle.book.specs.Book.{Slot, vacant, held, Book, Pending, chainSide, sideOf, stopOf, before}
+use Rattle.book.specs.Book.{Slot, vacant, held, Book, Pending, sideOf, stopOf, before}
 use Rattle.book.specs.Book.{withIndex, gather, sort, ofSide, pendingOn, chain, indices}
-use Rattle.book.proofs.Sort.{insert}
 use Rattle.book.specs.Evaluation.{trailed, changedOn, mover, movedOn}
 use Rattle.book.specs.Words.{chainIndices}
 use Rattle.book.specs.declared.Chain.{Chain}

@@ -6,7 +6,7 @@ use mathlib.Core.Logic.{_≢_}
 use mathlib.Core.List.{List}
 use Rattle.pricelevel.specs.declared.Side.{Side}
 use Rattle.book.specs.Valid.{Valid, Fits}
-use Rattle.book.specs.Book.{Slot, held, Book, chainSide, sideOf}
+use Rattle.book.specs.Book.{Slot, held, Book, sideOf}
 use Rattle.book.specs.Words.{chainIndices}
 use Rattle.book.specs.declared.Chain.{Chain}
 use Rattle.book.specs.declared.Chain.the-variants.{ByStop, ByWatermark}

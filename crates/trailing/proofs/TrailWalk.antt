@@ -16,7 +16,7 @@ use Rattle.stop_terms.specs.Terms.{behind}
 use Rattle.book.proofs.Lists.{all-map}
 use Rattle.book.specs.Lists.{All}
 use Rattle.book.specs.Steps.{trailedSlot, trailedOn}
-use Rattle.book.specs.Book.{Slot, vacant, held, Book, chainSide, sideOf, stopOf, watermarkOf, pendingCount}
+use Rattle.book.specs.Book.{Slot, vacant, held, Book, sideOf, stopOf, watermarkOf, pendingCount}
 use Rattle.book.specs.Evaluation.{trailed, movedOn}
 use Rattle.book.specs.Words.{cell, entryAt, chainIndices}
 use Rattle.book.specs.declared.Chain.{Chain}

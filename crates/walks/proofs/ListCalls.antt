@@ -24,7 +24,6 @@ use Rattle.walks.proofs.Buffers.{Entry, slot, blank-length, blankVal, z
 use Rattle.walks.proofs.Buffers.{lends-all, all-back}
 use Rattle.walks.proofs.Cells.{Typed, sliced, Blocks, envOf, cells, cellAt, held, reads}
 use Rattle.walks.proofs.Cells.{sets, takes, puts, enters, leaves}
-use Rattle.walks.proofs.Claims.{All, the-first, others-and}
 use Rattle.walks.proofs.Contracts.{Form, Known, Keeps, rows, ends, calls, Computes, computes}
 use Rattle.walks.proofs.Contracts as contracts
 use Rattle.walks.proofs.FillLoop.{Fills}
@@ -34,9 +33,9 @@ use Rattle.walks.proofs.Lent.{has}
 use Rattle.walks.proofs.Params.{lent}
 use Rattle.walks.proofs.Plain.{Plain, Stands, word, unit}
 use Rattle.walks.proofs.Types.{SettingsOf}
-use Rattle.walks.proofs.WordCalls.{Listing, blanks, Lists, Shape, third, fourth, Rest, with-list, again, part}
+use Rattle.walks.proofs.WordCalls.{Listing, blanks, Lists, Shape, third, fourth, with-list, again, part}
 use Rattle.walks.proofs.WordCalls.{evaluates-to, locals, block, Outcome, Outcomes, Did, Evaluates, Said}
-use Rattle.walks.proofs.WordCalls.{Owned, Gone, evaluates}
+use Rattle.walks.proofs.WordCalls.{Done, did-tell, did-list, did-done, Owned, Gone, evaluates}
 use Rattle.walks.proofs.Written.{written-back}
 
 -- ---- the callees beside the evaluation: the least of two numbers, and how many entries an answer counts
@@ -55,20 +54,15 @@ module _ (L : Listing) (P : Plain) {T : Type 0} (told : P .row .Denot → T) (co
   m = L .most .most
 
   -- ---- the function
-  abbrev Done : (κ : Lft) → fourth sh .row κ .Denot → List (R .row .Denot) → Outcome L P told sh → P .row .Denot
-      → List ℕ → Seen (fourth sh .row κ .exit yes) → List (R .row .Denot) → List (Type 0)
-  Done κ y before o r zs z ms =
-      (told r ≡ o .told) ∷ (zs ≡ o .words) ∷ (Rest sh κ y z (o .others) ++ (ms ≡ written (o .entries) before) ∷ [])
-
   abbrev Listed : Form
   Listed = record {
     lifetimes = 3;
     params = with-list sh (lent 3 2 tt (R .row));
     result = P;
     asks = λ κs a. [];
-    tells = λ κs a r e. Done (κs .1 .0) (a .1 .1 .1 .0) (a .1 .1 .1 .1 .0 .now)
+    tells = λ κs a r e. Done L P told sh (κs .1 .0) (a .1 .1 .1 .0) (a .1 .1 .1 .1 .0 .now)
         (outcome (κs .1 .0) (a .1 .0) (a .1 .1 .0) (a .1 .1 .1 .0) (a .0 .now) (length (a .1 .1 .1 .1 .0 .now)))
-        r (e .0 .now) (e .1 .1 .1 .0) (e .1 .1 .1 .1 .0 .now);
+        r (e .0 .now) (e .1 .1 .1 .0) (e .1 .1 .1 .1 .0 .now) ∷ [];
   }
 
   -- the words are zeros; the room; the evaluation; the list; the answer
@@ -142,18 +136,15 @@ module _ (L : Listing) (P : Plain) {T : Type 0} (told : P .row .Denot → T) (co
       said = see (fourth sh .row κ₂ .exit yes) y (s .l₄)
 
       -- it did what it does with the list's room
-      did : All (Did L P told sh κ₂ y (take j (blanks L)) (out n) (s .answer) (s .zs) said (s .ws))
+      did : Did L P told sh κ₂ y (take j (blanks L)) (out n) (s .answer) (s .zs) said (s .ws)
       did = subst (λ (o : Outcome L P told sh).
-          All (Did L P told sh κ₂ y (take j (blanks L)) o (s .answer) (s .zs) said (s .ws)))
+          Did L P told sh κ₂ y (take j (blanks L)) o (s .answer) (s .zs) said (s .ws))
           (ap out (length-take j (blanks L) ∙ omega (arith, room-is, blank-length (L .wide) m)) ∙ lists .cut n)
           (s .did)
 
-      abbrev rest : List (Type 0)
-      rest = Rest sh κ₂ y said (out n .others)
-
       module _ (i : ℕ) (counted : i ≡ count (told (s .answer))) where
         as-many : i ≡ length (out n .entries)
-        as-many = counted ∙ ap count (did .0) ∙ lists .counted n
+        as-many = counted ∙ ap count (did-tell L P told κ₂ _ _ _ _ sh y (out n) said did) ∙ lists .counted n
 
         few : i ≤ min n m
         few = rw (as-many, sym (lists .cut n)) (lists .few (min n m))
@@ -161,7 +152,7 @@ module _ (L : Listing) (P : Plain) {T : Type 0} (told : P .row .Denot → T) (co
         entries-are : map (L .of) (take i all) ≡ out n .entries
         entries-are =
             let words-are : s .ws ≡ written (map (L .words) (out n .entries)) (take j (blanks L)) =
-            the-first _ rest (did .1 .1) in
+            did-list L P told κ₂ _ _ _ _ sh y (out n) said did in
             rw (as-many, words-are) (written-back (L .words) (L .of) (out n .entries) (lists .back n)
             (take j (blanks L)) (without j (blanks L)))
 
@@ -179,7 +170,8 @@ module _ (L : Listing) (P : Plain) {T : Type 0} (told : P .row .Denot → T) (co
             nothing ! $ move ! (2 ∷ 0 ∷ []) $ join ! $ move ! (2 ∷ 0 ∷ []) $ join ! $ move ! (2 ∷ 0 ∷ []) $ join ! $
             by ! (ends Listed 𝓤 H A κs qs a W (s .answer) (s .is) (s .zs, (tt, (s .l₃, (s .l₄, (ms, tt)))))
             (tt, (tt, (tt, (tt, (long, tt)))))
-            (did .0, others-and _ _ _ rest (did .1 .0) (did .1 .1) (h ∙ ap (λ es. written es (xe .now)) entries-are)))
+            (did-done L P told κ₂ _ _ _ _ sh y (out n) said (xe .now) ms did
+            (h ∙ ap (λ es. written es (xe .now)) entries-are)))
 
     -- ---- the walk
     module _ (C : Calls 𝓤 H) (Λ : Loops 𝓤 H) (fm : FmC 𝓤 H (W .laws) C) (least callee counter filler : Name)

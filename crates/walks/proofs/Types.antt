@@ -42,7 +42,7 @@ use Rattle.stop_terms.proofs.StopTerms.Laws as terms′
 use Rattle.book.proofs.LayoutAnswer as layout
 use Rattle.book.proofs.LayoutAnswer.Laws as layout′
 use Rattle.walks.proofs.ThinStores.{Storable}
-use Rattle.walks.proofs.Plain.{Plain, Stands, word, struct, enum}
+use Rattle.walks.proofs.Plain.{Plain, Stands, struct, enum}
 
 abbrev pub PathOf : Plain
 PathOf = struct path.the-type path′.the-laws path′.the-plain (λ d l. refl)

@@ -21,7 +21,6 @@ use Rattle.book.specs.Calls.{written}
 use Rattle.book.specs.declared.Settings.{Settings}
 use Rattle.walks.proofs.Buffers.{Entry, slot, Kept, blank, blank-length, room-below, lends-part, part-back}
 use Rattle.walks.proofs.Cells.{sliced, Typed, Blocks, envOf, cells, cellAt, reads, sets}
-use Rattle.walks.proofs.Claims.{All}
 use Rattle.walks.proofs.Constants.{Most}
 use Rattle.walks.proofs.Contracts.{Form, Keeps, Asked, rows, spelt, calls}
 use Rattle.walks.proofs.Frame.{Cell, room as empty, full, away}
@@ -119,16 +118,10 @@ fourth (single first X) = numbers
 fourth (single second X) = plainly X
 fourth (paired X S σ) = list S
 
--- an entry of the other list, if there is one, and what is claimed of that list
+-- an entry of the other list, if there is one
 abbrev pub Other : Shape → Type 0
 Other (single t X) = Unit {0}
 Other (paired X S σ) = S .Denot
-
-abbrev pub Rest : (sh : Shape) (κ : Lft) → fourth sh .row κ .Denot → Seen (fourth sh .row κ .exit yes)
-    → List (Other sh)
-    → List (Type 0)
-Rest (single t X) κ y z os = []
-Rest (paired X S σ) κ y z os = (z .now ≡ written os (y .now)) ∷ []
 
 -- the parameters up to the list: store and settings, and the two
 abbrev at-second : Handed → Param 3
@@ -236,10 +229,37 @@ module _ (L : Listing) (P : Plain) {T : Type 0} (told : P .row .Denot → T) whe
 
   -- r it answers, zs is the store, z the fourth, ws are the words
   abbrev pub Did : (sh : Shape) (κ : Lft) → fourth sh .row κ .Denot → List (List ℕ) → Outcome sh → P .row .Denot → List ℕ
-      → Seen (fourth sh .row κ .exit yes) → List (List ℕ)
-      → List (Type 0)
-  Did sh κ y before o r zs z ws = (told r ≡ o .told) ∷ (zs ≡ o .words)
-      ∷ (ws ≡ written (map (L .words) (o .entries)) before) ∷ Rest sh κ y z (o .others)
+      → Seen (fourth sh .row κ .exit yes) → List (List ℕ) → Type 0
+  Did (single t X) κ y before o r zs z ws =
+      (told r ≡ o .told) × (zs ≡ o .words) × (ws ≡ written (map (L .words) (o .entries)) before)
+  Did (paired X S σ) κ y before o r zs z ws =
+      (told r ≡ o .told) × (zs ≡ o .words) × (ws ≡ written (map (L .words) (o .entries)) before)
+      × (z .now ≡ written (o .others) (y .now))
+
+  -- the same with the records ms in the place of the words
+  abbrev pub Done : (sh : Shape) (κ : Lft) → fourth sh .row κ .Denot → List (L .records .row .Denot) → Outcome sh
+      → P .row .Denot → List ℕ → Seen (fourth sh .row κ .exit yes) → List (L .records .row .Denot) → Type 0
+  Done (single t X) κ y before o r zs z ms =
+      (told r ≡ o .told) × (zs ≡ o .words) × (ms ≡ written (o .entries) before)
+  Done (paired X S σ) κ y before o r zs z ms =
+      (told r ≡ o .told) × (zs ≡ o .words) × (z .now ≡ written (o .others) (y .now)) × (ms ≡ written (o .entries) before)
+
+  module _ (κ : Lft) (before : List (List ℕ)) (r : P .row .Denot) (zs : List ℕ) (ws : List (List ℕ)) where
+    pub did-tell : (sh : Shape) (y : fourth sh .row κ .Denot) (o : Outcome sh) (z : Seen (fourth sh .row κ .exit yes))
+        → Did sh κ y before o r zs z ws → told r ≡ o .told
+    did-tell (single t X) y o z d = d .0
+    did-tell (paired X S σ) y o z d = d .0
+
+    pub did-list : (sh : Shape) (y : fourth sh .row κ .Denot) (o : Outcome sh) (z : Seen (fourth sh .row κ .exit yes))
+        → Did sh κ y before o r zs z ws → ws ≡ written (map (L .words) (o .entries)) before
+    did-list (single t X) y o z d = d .2
+    did-list (paired X S σ) y o z d = d .2
+
+    pub did-done : (sh : Shape) (y : fourth sh .row κ .Denot) (o : Outcome sh) (z : Seen (fourth sh .row κ .exit yes))
+        (was ms : List (L .records .row .Denot)) → Did sh κ y before o r zs z ws → ms ≡ written (o .entries) was
+        → Done sh κ y was o r zs z ms
+    did-done (single t X) y o z was ms d e = (d .0, d .1, e)
+    did-done (paired X S σ) y o z was ms d e = (d .0, d .1, d .3, e)
 
   -- it takes the words last, or before the other list
   abbrev taken : Shape → List (Param 3)
@@ -250,10 +270,10 @@ module _ (L : Listing) (P : Plain) {T : Type 0} (told : P .row .Denot → T) whe
       → Outs κs (slots 3 (taken sh)) (kepts 3 (taken sh)) → List (Type 0)
   tells (single t X) outcome κs a r e = Did (single t X) (κs .1 .0) (a .1 .1 .1 .0) (a .1 .1 .1 .1 .0 .now)
       (outcome (κs .1 .0) (a .1 .0) (a .1 .1 .0) (a .1 .1 .1 .0) (a .0 .now) (length (a .1 .1 .1 .1 .0 .now)))
-      r (e .0 .now) (e .1 .1 .1 .0) (e .1 .1 .1 .1 .0 .now)
+      r (e .0 .now) (e .1 .1 .1 .0) (e .1 .1 .1 .1 .0 .now) ∷ []
   tells (paired X S σ) outcome κs a r e = Did (paired X S σ) (κs .1 .1 .0) (a .1 .1 .1 .1 .0) (a .1 .1 .1 .0 .now)
       (outcome (κs .1 .1 .0) (a .1 .0) (a .1 .1 .0) (a .1 .1 .1 .1 .0) (a .0 .now) (length (a .1 .1 .1 .0 .now)))
-      r (e .0 .now) (e .1 .1 .1 .1 .0) (e .1 .1 .1 .0 .now)
+      r (e .0 .now) (e .1 .1 .1 .1 .0) (e .1 .1 .1 .0 .now) ∷ []
 
   abbrev pub Evaluates : (sh : Shape) → Outcomes sh → Form
   Evaluates sh outcome = record {
@@ -275,8 +295,8 @@ module _ (L : Listing) (P : Plain) {T : Type 0} (told : P .row .Denot → T) whe
     pub l₄ : Last (fourth sh .row κ .exit yes) y
     pub ws : List (List ℕ)
     pub as-long : length ws ≡ length (take j (blanks L))
-    pub did : All (Did sh κ y (take j (blanks L)) (outcome κ settings x y w (length (take j (blanks L)))) answer zs
-        (see (fourth sh .row κ .exit yes) y l₄) ws)
+    pub did : Did sh κ y (take j (blanks L)) (outcome κ settings x y w (length (take j (blanks L)))) answer zs
+        (see (fourth sh .row κ .exit yes) y l₄) ws
 
   module _ {M : Type 1} (𝓤 : URA M) (H : Heap 𝓤) (A : Atoms 𝓤) (W : Given 𝓤 H A) (κ₁ κ₂ : Lft) (q₁ q₂ : Share)
       (xs : RefT (List ℕ)) (settings : Settings) (settings-is : Stands SettingsOf settings) (j : ℕ)

@@ -13,7 +13,7 @@ use Rattle.book.specs.declared.Moved.{Moved}
 use Rattle.entry_records.specs.Records.{electedOf, movedOf}
 use Rattle.entry_records.proofs.EntryWords.{elected-read, moved-read}
 use Rattle.evaluation.proofs.Rooms.{UuidChild, Listed, ListsElected}
-use Rattle.listing.specs.Entries.{electedWords, movedWords}
+use Rattle.book.specs.Entries.{electedWords, movedWords}
 use Rattle.walks.proofs.Constants.{records, moves, mostMoves}
 use Rattle.walks.proofs.Types.{ElectedOf, MovedOf}
 use Rattle.walks.proofs.WordCalls.{Listing, Left, Lists}

@@ -1,14 +1,14 @@
 -- Demand 3 over the two calls that a host links, from what they tell.
 use Prim.Native.Nat.{ℕ, _-_}
 use native.Mathlib.Omega.{arith}
-use mathlib.Core.Path.{_≡_, refl, ap, _∙_}
+use mathlib.Core.Path.{_≡_, refl, _∙_}
 use mathlib.Core.List.{List, [], _∷_, _++_, map}
 use lib.ListN.{length, getD}
 use Rattle.error.specs.Answer.{Answer, refused, accepted}
 use Rattle.pricelevel.specs.Price.{toPrice}
 use Rattle.book.specs.Calls.{written, SegmentOutcome, WalkOutcome}
 use Rattle.book.specs.declared.Counts.{Counts}
-use Rattle.listing.specs.Entries.{electedWords, movedWords}
+use Rattle.book.specs.Entries.{electedWords, movedWords}
 use Rattle.both_ways.specs.Ends.{endsCall, Comparable}
 use Rattle.both_ways.proofs.EndsAndRun.{decided, between-ends}
 use Rattle.host_words.specs.Answers.{number, answered, countsWords, Told}

@@ -10,7 +10,7 @@ ghost use lib.ListN.{length};
 ghost use Rattle.book.specs.Calls.{written};
 ghost use Rattle.book.specs.Store.{layOut, pendingQuantity};
 ghost use Rattle.book.specs.Words.{wellFormed};
-ghost use Rattle.listing.specs.Entries.{electedWords, movedWords};
+ghost use Rattle.book.specs.Entries.{electedWords, movedWords};
 ghost use Rattle.stop_protection.specs.Collar.{tryNew};
 ghost use Rattle.pricelevel.specs.Price.{toPrice};
 ghost use Rattle.both_ways.specs.Ends.{Comparable};

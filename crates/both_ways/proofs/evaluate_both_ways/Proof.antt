@@ -16,8 +16,8 @@ returns c =
     let all =
     decided (g .settings) (g .prev) (map toPrice (g .prices .now)) (g .ends .now) (g .run .now) (g .elected .now)
     (g .moved .now) (g .listed .now)
-    _ _ _ _ _ _ (d .0) (d .1 .0) (d .1 .1 .0) (e .0) (e .1 .0) (e .1 .1) in
-    (all, (d .0, (d .1 .0, (d .1 .1 .0, (d .1 .1 .1, e)))))
+    _ _ _ _ _ _ (d .0) (d .1) (d .2) (e .0) (e .1) (e .2) in
+    (all, (d, e))
 
 pub evaluate-both-ways-spec : {M : Type 1} → statement M
 evaluate-both-ways-spec =

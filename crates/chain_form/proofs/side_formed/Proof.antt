@@ -2,7 +2,6 @@
 use mathlib.Core.Path.{sym, _∙_}
 use borrow.Author.Tests.{not-true, not-false}
 use borrow.Author.Needs.{needs}
-use Rattle.book.specs.Book.{chainSide}
 use Rattle.form_check.specs.Check.{sideFormed}
 use Rattle.book.proofs.Tests.{and-fails, and-passes}
 use Rattle.form_check.proofs.Walks.{chain-counted}

@@ -5,7 +5,7 @@ use native.Mathlib.Omega.{arith}
 use Rattle.book.specs.Words.{bookOf}
 use Rattle.children.proofs.Completed.{Doing, doing-first, doing-next, doing-last, fills-completed}
 use Rattle.listing.proofs.Walked.{stored-book}
-use Rattle.listing.specs.Entries.{completed}
+use Rattle.listing.specs.ChainEntries.{completed}
 use borrow.Author.Needs.{needs}
 use Rattle.children.proofs.complete.Statement.{statement}
 use Rattle.children.proofs.complete.Tie as tie

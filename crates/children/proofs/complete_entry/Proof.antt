@@ -3,7 +3,6 @@ use mathlib.Core.Path.{ap}
 use lib.ListN.{set}
 use Rattle.children.proofs.Completed.{completed-words}
 use borrow.Author.Needs.{needs}
-use borrow.Author.Needs.{needs}
 use Rattle.children.proofs.complete_entry.Statement.{statement}
 use Rattle.children.proofs.complete_entry.Tie as tie
 

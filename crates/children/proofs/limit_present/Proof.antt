@@ -1,6 +1,5 @@
 -- `children::limit_present` meets its contract: each arm knows its variant.
-use Rattle.listing.specs.Entries.{limitPresent}
-use borrow.Author.Needs.{needs}
+use Rattle.book.specs.Entries.{limitPresent}
 use borrow.Author.Needs.{needs}
 use Rattle.children.proofs.limit_present.Statement.{statement}
 use Rattle.children.proofs.limit_present.Tie as tie

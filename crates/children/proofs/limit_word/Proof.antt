@@ -1,6 +1,5 @@
 -- `children::limit_word` meets its contract: each arm knows its variant.
-use Rattle.listing.specs.Entries.{limitWord}
-use borrow.Author.Needs.{needs}
+use Rattle.book.specs.Entries.{limitWord}
 use borrow.Author.Needs.{needs}
 use Rattle.children.proofs.limit_word.Statement.{statement}
 use Rattle.children.proofs.limit_word.Tie as tie

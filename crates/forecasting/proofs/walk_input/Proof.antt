@@ -33,7 +33,7 @@ returns c =
     let prices = prices-read bytes _ _ _ (counted .word-count .ensures) (start .pre .1 .0)
     (second .read-words2 .ensures) in
     walked-as _ bytes _ _ _ _ _ _ (set .settings .ensures) store prices (start .pre .1 .1) (after .walk .ensures .0)
-    (after .walk .ensures .1 .1)
+    (after .walk .ensures .2)
 
 pub walk-input-spec : {M : Type 1} → statement M
 walk-input-spec =

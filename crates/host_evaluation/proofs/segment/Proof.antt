@@ -10,7 +10,7 @@ returns c =
     let a = p .before in
     let told = rw (s .segment .ensures .0) at (c .of-evaluation .ensures) in
     rw (← a .settings-of .ensures, ← p .prints-of .ensures)
-    (told, s .segment .ensures .1 .0, s .segment .ensures .1 .1 .0, s .segment .ensures .1 .1 .1)
+    (told, s .segment .ensures .1, s .segment .ensures .2, s .segment .ensures .3)
 
 pub segment-spec : {M : Type 1} → statement M
 segment-spec =

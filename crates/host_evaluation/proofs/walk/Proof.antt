@@ -10,7 +10,7 @@ returns c =
     let s = l .before in
     let told = rw (w .walk .ensures .0) at (c .of-evaluation .ensures) in
     rw (← s .settings-of .ensures, ← l .last-price-of .ensures)
-    (told, w .walk .ensures .1 .0, w .walk .ensures .1 .1)
+    (told, w .walk .ensures .1, w .walk .ensures .2)
 
 pub walk-spec : {M : Type 1} → statement M
 walk-spec =

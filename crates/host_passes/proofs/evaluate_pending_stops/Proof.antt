@@ -10,7 +10,7 @@ returns c =
     let s = p .before in
     let told = rw (e .evaluate-pending-stops .ensures .0) at (c .of-pass .ensures) in
     rw (← s .settings-of .ensures, ← p .prints-of .ensures)
-    (told, e .evaluate-pending-stops .ensures .1 .0, e .evaluate-pending-stops .ensures .1 .1)
+    (told, e .evaluate-pending-stops .ensures .1, e .evaluate-pending-stops .ensures .2)
 
 pub evaluate-pending-stops-spec : {M : Type 1} → statement M
 evaluate-pending-stops-spec =

@@ -24,9 +24,9 @@ returns-2 c =
     let b = i .before in
     let known = sym (b .path-known .ensures) ∙ not-false _ (i .if1 .left) in
     let told = rw (r .run-stop-triggers .ensures .0) at (c .of-pass .ensures) in
-    let path = p .path-words .ensures ∙ ap pathWords (r .run-stop-triggers .ensures .1 .0) in
+    let path = p .path-words .ensures ∙ ap pathWords (r .run-stop-triggers .ensures .3) in
     rw (known, ← s .settings-of .ensures, ← l .last-price-of .ensures, ← a .path-of .ensures)
-    (told, r .run-stop-triggers .ensures .1 .1 .0, r .run-stop-triggers .ensures .1 .1 .1, path)
+    (told, r .run-stop-triggers .ensures .1, r .run-stop-triggers .ensures .2, path)
 
 pub run-stop-triggers-spec : {M : Type 1} → statement M
 run-stop-triggers-spec =

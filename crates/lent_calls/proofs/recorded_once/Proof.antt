@@ -19,11 +19,9 @@ use Rattle.walks.proofs.Params.{value, lent-struct}
 use Rattle.walks.proofs.Plain.{Stands, Held, word, unit}
 use Rattle.walks.proofs.Types.{PathOf, LastOf, PriceOf}
 use Rattle.lent_calls.proofs.Local.{lends, comes-home}
-use Rattle.lent_path.proofs.record_print as callee
 use Rattle.lent_path.proofs.record_print.Symbol as callee-def
 use Rattle.lent_path.proofs.record_print.Met as callee-thm
 use Rattle.lent_calls.proofs.recorded_once.Key.{name as #recorded-once}
-use Rattle.lent_calls.proofs.recorded_once as f
 use Rattle.lent_calls.proofs.recorded_once.Statement as stated
 use Rattle.lent_calls.proofs.recorded_once.Code as code
 

@@ -32,13 +32,11 @@ use Rattle.walks.proofs.Params.{value, values, lent}
 use Rattle.walks.proofs.Plain.{Plain, Held, unit}
 use Rattle.walks.proofs.Types.{SettingsOf, PrintsOf, ElectedOf, MovedOf, EvaluatedOf}
 use Rattle.lent_calls.proofs.Local.{array, long, lends-array, array-home}
-use Rattle.lent_segment.proofs.segment as callee
 use Rattle.lent_segment.proofs.segment.Symbol as callee-def
 use Rattle.lent_segment.proofs.segment.Met as callee-thm
 use Rattle.lent_calls.proofs.print_segment.Symbol as printer-def
 use Rattle.lent_calls.proofs.print_segment.Met as printer-thm
 use Rattle.lent_calls.proofs.segment_once.Key.{name as #segment-once}
-use Rattle.lent_calls.proofs.segment_once as f
 use Rattle.lent_calls.proofs.segment_once.Statement as stated
 use Rattle.lent_calls.proofs.segment_once.Code as code
 use Rattle.lent_calls.proofs.segment_once.Code.Mir as text
@@ -60,8 +58,8 @@ Segments = record {
   tells = λ κs a r e.
       let o : SegmentOutcome = segmentCall (a .1 .0) (a .1 .1 .0) (a .0 .now) (length (a .1 .1 .1 .0 .now))
       (length (a .1 .1 .1 .1 .0 .now)) in
-      (toldCounts r ≡ o .answer) ∷ (e .0 .now ≡ o .words) ∷ (e .1 .1 .1 .0 .now ≡ written (o .elected)
-      (a .1 .1 .1 .0 .now)) ∷ (e .1 .1 .1 .1 .0 .now ≡ written (o .moved) (a .1 .1 .1 .1 .0 .now)) ∷ [];
+      ((toldCounts r ≡ o .answer) × (e .0 .now ≡ o .words) × (e .1 .1 .1 .0 .now ≡ written (o .elected)
+      (a .1 .1 .1 .0 .now)) × (e .1 .1 .1 .1 .0 .now ≡ written (o .moved) (a .1 .1 .1 .1 .0 .now))) ∷ [];
 }
 
 abbrev segment : Known Segments

@@ -8,7 +8,7 @@ use Rattle.lent_run.specs.Runs.{toldRun}
 use Rattle.lent_run.specs.declared.Start.{Start}
 use Rattle.lent_run.proofs.Types.{StartOf, StopRunOf, start-stands, run-parts}
 use Rattle.walks.proofs.Claims.{claims-on}
-use Rattle.walks.proofs.WalkSteps.{refl, List, [], _∷_, id⊢, ftrue, flft, givenOf, tablesOf, ‵, raw, _⊛_, _$_, ! }
+use Rattle.walks.proofs.WalkSteps.{refl, [], _∷_, id⊢, ftrue, flft, givenOf, tablesOf, ‵, raw, _⊛_, _$_, ! }
 use Rattle.walks.proofs.WalkSteps.{move, drop, split, join, fsplit, fsplit3, fjoin, frame, done, nothing, use1, look}
 use Rattle.walks.proofs.WalkSteps.{look-raw, init, store-raw, stop, hop, fld, from, load, addr, agg, of-opd, and-then}
 use Rattle.walks.proofs.WalkSteps.{no-more, assigns, land, whole, sub, look-in, u64}
@@ -68,7 +68,6 @@ run-stop-triggers-spec 𝓤 H 𝓜 𝓖 𝓡 =
     call .calls (copied ! 9 refl (copied ! 25 refl (copied ! 23 refl (copied ! 17 refl (copied ! 5 refl (no-more !))))))
     (λ d zs is. let parts = run-parts d is in
     let o = runCall (a .1 .1 .0) (later .0 .now) (later .1 .0) (a .0 .now) (length (es .now)) (x .now) in
-    let lists : List (Type 0) = (zs .0 ≡ o .words) ∷ (zs .1 .1 .1 .1 .0 ≡ written (o .elected) (es .now)) ∷ [] in
     move ! (1 ∷ 2 ∷ 3 ∷ 4 ∷ []) $ land ! (from ! (stop !)) (init ! 15 refl (StopRunOf .typed 𝓤 H A W d _ is)) $
     assigns ! (of-opd ! (load ! (from ! (fld ! refl (stop !))) (look-in ! 15 (sub ! 1 refl (whole !)))))
     (from ! (hop ! (look ! 27 refl) (stop !))) (store-raw ! 0 refl (PathOf .typed 𝓤 H A W (d .path) _ (parts .1))) $
@@ -80,8 +79,9 @@ run-stop-triggers-spec 𝓤 H 𝓜 𝓖 𝓡 =
     -- [the store's token; the others'; res; the path's token; the last values]
     move ! (3 ∷ 1 ∷ []) $ join ! $ move ! (1 ∷ 0 ∷ []) $ join ! $ frame ! $ move ! (1 ∷ []) $ fsplit ! $
     move ! (2 ∷ 1 ∷ []) $ fjoin ! $ move ! (1 ∷ 0 ∷ []) $ fjoin ! $ done !)
-    (claims-on 𝓤 ((toldRun d ≡ (o .answer, o .path)) ∷ lists)
-    ((toldPass (d .answer) ≡ o .answer) ∷ (d .path ≡ o .path) ∷ lists)
-    (λ e. (ap (λ t. t .0) (e .0), (ap (λ t. t .1) (e .0), e .1))))
+    (claims-on 𝓤 (((toldRun d ≡ (o .answer, o .path)) × (zs .0 ≡ o .words)
+    × (zs .1 .1 .1 .1 .0 ≡ written (o .elected) (es .now))) ∷ [])
+    (((toldPass (d .answer) ≡ o .answer) × (zs .0 ≡ o .words) × (zs .1 .1 .1 .1 .0 ≡ written (o .elected) (es .now))
+    × (d .path ≡ o .path)) ∷ []) (λ e. (ap (λ t. t .0) (e .0), e .1, e .2, ap (λ t. t .1) (e .0))))
     (full _ ∷ full _ ∷ full _ ∷ full _ ∷ full _ ∷ full _ ∷ full _ ∷ full _ ∷ full _ ∷ full _ ∷ full _ ∷ full _
     ∷ full _ ∷ []) tt 26 refl))))

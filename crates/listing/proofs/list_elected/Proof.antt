@@ -9,7 +9,7 @@ use Rattle.listing.proofs.Along.{At, at-length, at-end, at-record, at-l
 use Rattle.listing.proofs.Leaders.{electedStop, elected-told}
 use Rattle.listing.proofs.Notes.{fill-room, fill-written}
 use Rattle.listing.proofs.Walked.{head-few, stored-head, walked, walk-start, walk-done, elected-walked}
-use Rattle.listing.specs.Entries.{fillWords, fillsOf}
+use Rattle.listing.specs.ChainEntries.{fillWords, fillsOf}
 use borrow.Author.Needs.{needs}
 use Rattle.listing.proofs.list_elected.Statement.{statement}
 use Rattle.listing.proofs.list_elected.Tie as tie

@@ -3,7 +3,6 @@ use mathlib.Core.Path.{refl, ap}
 use lib.ListN.{set}
 use Rattle.listing.proofs.Notes.{fill-words}
 use borrow.Author.Needs.{needs}
-use borrow.Author.Needs.{needs}
 use Rattle.listing.proofs.list_fill.Statement.{statement}
 use Rattle.listing.proofs.list_fill.Tie as tie
 

@@ -1,7 +1,6 @@
 -- `listing::list_move` meets its contract: the stop changes, or it does not.
 use Rattle.listing.proofs.Notes.{move-none, move-room, move-one}
 use borrow.Author.Needs.{needs}
-use borrow.Author.Needs.{needs}
 use Rattle.listing.proofs.list_move.Statement.{statement}
 use Rattle.listing.proofs.list_move.Tie as tie
 

@@ -7,7 +7,8 @@ use Rattle.book.specs.Chains.{linkOf}
 use Rattle.listing.proofs.Along.{At, at-length, at-end, at-record, at-left, at-stop, at-room, at-next}
 use Rattle.listing.proofs.Leaders.{watermarkBehind, behind-told}
 use Rattle.listing.proofs.Walked.{head-few, stored-head, walked, walk-start, walk-done, moved-walked}
-use Rattle.listing.specs.Entries.{movedWords, movesOf}
+use Rattle.book.specs.Entries.{movedWords}
+use Rattle.listing.specs.ChainEntries.{movesOf}
 use borrow.Author.Needs.{needs}
 use Rattle.listing.proofs.list_moved.Statement.{statement}
 use Rattle.listing.proofs.list_moved.Tie as tie

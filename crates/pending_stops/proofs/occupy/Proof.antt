@@ -1,5 +1,4 @@
 -- `pending_stops::occupy` meets its contract.
-use Prim.Native.Nat.{_<_, _^_}
 use native.Mathlib.Omega.{arith}
 use mathlib.Core.Path.{refl}
 use lib.ListN.{length-set}

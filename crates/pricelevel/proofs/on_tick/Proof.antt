@@ -1,8 +1,6 @@
 -- `pricelevel::on_tick` meets its contract, by cases on the tick.
 use Prim.Native.Nat.{ℕ, zero, suc, _%_}
 use mathlib.Core.Path.{_≡_, refl}
-use mathlib.Core.Bool.{true}
-use native.Mathlib.Omega.{arith}
 use borrow.Author.Needs.{needs}
 use lib.Dec.{eqb}
 use Rattle.pricelevel.specs.Tick.{onTick}

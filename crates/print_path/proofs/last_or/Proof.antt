@@ -1,7 +1,6 @@
 -- `print_path::last_or` meets its contract.
 use Rattle.book.specs.Path.{lastOr}
 use borrow.Author.Needs.{needs}
-use borrow.Author.Needs.{needs}
 use Rattle.print_path.proofs.last_or.Statement.{statement}
 use Rattle.print_path.proofs.last_or.Tie as tie
 

@@ -1,7 +1,6 @@
 -- `print_path::opened` meets its contract.
 use Rattle.book.specs.Path.{opened}
 use borrow.Author.Needs.{needs}
-use borrow.Author.Needs.{needs}
 use Rattle.print_path.proofs.opened.Statement.{statement}
 use Rattle.print_path.proofs.opened.Tie as tie
 

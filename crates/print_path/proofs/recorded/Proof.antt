@@ -2,7 +2,6 @@
 use borrow.Author.Tests.{ne-eqb}
 use Rattle.book.specs.Path.{recorded}
 use borrow.Author.Needs.{needs}
-use borrow.Author.Needs.{needs}
 use Rattle.print_path.proofs.recorded.Statement.{statement}
 use Rattle.print_path.proofs.recorded.Tie as tie
 

@@ -1,7 +1,6 @@
 -- `print_path::segment_of` meets its contract.
 use Rattle.book.specs.Path.{segmentOf}
 use borrow.Author.Needs.{needs}
-use borrow.Author.Needs.{needs}
 use Rattle.print_path.proofs.segment_of.Statement.{statement}
 use Rattle.print_path.proofs.segment_of.Tie as tie
 

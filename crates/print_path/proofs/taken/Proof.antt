@@ -4,7 +4,6 @@ use mathlib.Core.Option.{some}
 use Rattle.book.specs.Path.{take, segmentOf, prevOf}
 use Rattle.print_path.specs.Segments.{toldNext}
 use borrow.Author.Needs.{needs}
-use borrow.Author.Needs.{needs}
 use Rattle.print_path.proofs.taken.Statement.{statement}
 use Rattle.print_path.proofs.taken.Tie as tie
 

@@ -2,7 +2,6 @@
 use mathlib.Core.Path.{sym, _∙_}
 use borrow.Author.Needs.{needs}
 use Rattle.book.specs.Words.{entryAt}
-use Rattle.book.specs.Chains.{slotGroup}
 use Rattle.book.proofs.Slots.{slotAt-vacant, slotAt-held, sideFrom-buy, sideFrom-sell}
 use Rattle.record_groups.proofs.group_of.Statement.{statement}
 use Rattle.record_groups.proofs.group_of.Tie as tie

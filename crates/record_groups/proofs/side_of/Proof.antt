@@ -1,6 +1,5 @@
 -- `record_groups::side_of` meets its contract: each arm knows the chain.
 use borrow.Author.Needs.{needs}
-use Rattle.book.specs.Book.{chainSide}
 use Rattle.record_groups.proofs.side_of.Statement.{statement}
 use Rattle.record_groups.proofs.side_of.Tie as tie
 

@@ -1,7 +1,7 @@
 -- `records::put_words` meets its contract.
 use Prim.Native.Nat.{_-_}
 use native.Mathlib.Omega.{arith}
-use lib.ListN.{length, length-set}
+use lib.ListN.{length}
 use Rattle.chains.proofs.Copies.{Copied, copied-none, copied-more, copied-all}
 use Rattle.records.proofs.put_words.Statement.{statement}
 use Rattle.records.proofs.put_words.Tie as tie

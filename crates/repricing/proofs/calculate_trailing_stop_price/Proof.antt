@@ -1,6 +1,6 @@
 -- `repricing::calculate_trailing_stop_price` meets its contract: each way out is a case of the preview.
 use mathlib.Core.Path.{_≡_, sym, ap, _∙_}
-use mathlib.Core.Option.{none, some}
+use mathlib.Core.Option.{some}
 use borrow.Author.Tests.{not-true, not-false}
 use borrow.Author.Needs.{needs}
 use Rattle.stop_terms.specs.Terms.{candidate, toldCandidate}

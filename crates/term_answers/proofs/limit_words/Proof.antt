@@ -1,6 +1,6 @@
 -- `term_answers::limit_words` meets its contract.
 use borrow.Author.Needs.{needs}
-use Rattle.listing.specs.Entries.{limitPresent, limitWord}
+use Rattle.book.specs.Entries.{limitPresent, limitWord}
 use Rattle.host_words.specs.Answers.{limitWords}
 use Rattle.term_answers.proofs.limit_words.Statement.{statement}
 use Rattle.term_answers.proofs.limit_words.Tie as tie

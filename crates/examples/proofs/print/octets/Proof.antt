@@ -1,7 +1,6 @@
 -- `examples::print::octets` meets its contract. The invariant: i is at most the length. The measure is what is left of
 -- it.
 use Prim.Native.Nat.{_≤_, _-_}
-use native.Mathlib.Omega.{arith}
 use borrow.Author.Needs.{needs}
 use lib.ListN.{length}
 use Rattle.examples.proofs.print.octets.Statement.{statement}

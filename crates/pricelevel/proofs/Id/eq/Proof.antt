@@ -2,7 +2,7 @@
 use mathlib.Core.Path.{sym, _∙_}
 use borrow.Author.Needs.{needs}
 use borrow.Author.Tests.{eq-eqb, ne-eqb}
-use Rattle.pricelevel.specs.Identity.{kindNumber, sameId}
+use Rattle.pricelevel.specs.Identity.{sameId}
 use Rattle.pricelevel.proofs.Id.eq.Statement.{statement}
 use Rattle.pricelevel.proofs.Id.eq.Tie as tie
 

@@ -1,4 +1,4 @@
--- The words of the entries of a lent list: document 01, One point, one segment, one pass.
+-- What a stop of a chain puts on a lent list, as words, and the entry that a fill becomes.
 use Prim.Native.Nat.{ℕ}
 use mathlib.Core.Bool.{cond}
 use mathlib.Core.List.{List, [], _∷_}
@@ -9,21 +9,14 @@ use Rattle.pricelevel.specs.Side.{sideNumber}
 use Rattle.pricelevel.specs.declared.Id.{Id}
 use Rattle.pricelevel.specs.declared.Price.{Price}
 use Rattle.stop_protection.specs.Collar.{limitUnder}
-use Rattle.stop_protection.specs.declared.Limit.{Limit}
-use Rattle.stop_protection.specs.declared.Limit.the-variants as limit
 use Rattle.stop_trigger.specs.Child.{childId}
 use Rattle.book.specs.Book.{Book, sideOf, stopOf, seqOf}
+use Rattle.book.specs.Entries.{movedWords, limitPresent, limitWord}
 use Rattle.book.specs.Evaluation.{Fill, trailed}
 use Rattle.book.specs.Store.{isPending}
 use Rattle.book.specs.Words.{kindOf, sideFrom}
-use Rattle.book.specs.declared.Elected.{Elected}
-use Rattle.book.specs.declared.Moved.{Moved}
 use Rattle.book.specs.declared.Settings.{Settings}
 use Rattle.book.specs.declared.StopEntry.{StopEntry}
-
--- kind, identity high, identity low, stop
-unfoldable pub movedWords : Moved → List ℕ
-movedWords m = kindNumber (m .id .kind) ∷ m .id .high ∷ m .id .low ∷ m .stop .0 ∷ []
 
 -- kind, identity high, identity low, side, stop, quantity, sequence, trigger; the words of limit, child and pending are
 -- still zero
@@ -33,26 +26,6 @@ fillWords f =
     kindNumber (t .id .kind) ∷ t .id .high ∷ t .id .low ∷ sideNumber (sideOf t) ∷ stopOf t ∷ t .quantity .0 ∷ seqOf t
     ∷ f .trigger .0
     ∷ 0 ∷ 0 ∷ 0 ∷ 0 ∷ 0 ∷ []
-
--- 1 if there is a limit, and its price, or 0
-unfoldable pub limitPresent : Limit → ℕ
-limitPresent limit.None = 0
-limitPresent (limit.At p) = 1
-
-unfoldable pub limitWord : Limit → ℕ
-limitWord limit.None = 0
-limitWord (limit.At p) = p .0
-
--- kind, identity high, identity low, side, stop, quantity, sequence, trigger, limit present, limit, child high, child
--- low, pending (0 or 1)
-unfoldable pub electedWords : Elected → List ℕ
-electedWords e =
-    kindNumber (e .id .kind) ∷ e .id .high ∷ e .id .low ∷ sideNumber (e .side) ∷ e .stop .0 ∷ e .quantity .0
-    ∷ e .seq .0 ∷ e .trigger .0
-    ∷ limitPresent (e .limit) ∷ limitWord (e .limit) ∷ e .child .high ∷ e .child .low ∷ cond (e .pending) 1 0 ∷ []
-
-------------------------------------------------------------------------
--- What a stop of a chain puts on a list
 
 -- its move, if a trade at the price changes its stop
 unfoldable pub movesOf : Price → StopEntry → List (List ℕ)

@@ -1,0 +1,31 @@
+-- The words of the entries of a lent list: document 01, One point, one segment, one pass.
+use Prim.Native.Nat.{ℕ}
+use mathlib.Core.Bool.{cond}
+use mathlib.Core.List.{List, [], _∷_}
+use Rattle.pricelevel.specs.Identity.{kindNumber}
+use Rattle.pricelevel.specs.Side.{sideNumber}
+use Rattle.stop_protection.specs.declared.Limit.{Limit}
+use Rattle.stop_protection.specs.declared.Limit.the-variants as limit
+use Rattle.book.specs.declared.Elected.{Elected}
+use Rattle.book.specs.declared.Moved.{Moved}
+
+-- kind, identity high, identity low, stop
+unfoldable pub movedWords : Moved → List ℕ
+movedWords m = kindNumber (m .id .kind) ∷ m .id .high ∷ m .id .low ∷ m .stop .0 ∷ []
+
+-- 1 if there is a limit, and its price, or 0
+unfoldable pub limitPresent : Limit → ℕ
+limitPresent limit.None = 0
+limitPresent (limit.At p) = 1
+
+unfoldable pub limitWord : Limit → ℕ
+limitWord limit.None = 0
+limitWord (limit.At p) = p .0
+
+-- kind, identity high, identity low, side, stop, quantity, sequence, trigger, limit present, limit, child high, child
+-- low, pending (0 or 1)
+unfoldable pub electedWords : Elected → List ℕ
+electedWords e =
+    kindNumber (e .id .kind) ∷ e .id .high ∷ e .id .low ∷ sideNumber (e .side) ∷ e .stop .0 ∷ e .quantity .0
+    ∷ e .seq .0 ∷ e .trigger .0
+    ∷ limitPresent (e .limit) ∷ limitWord (e .limit) ∷ e .child .high ∷ e .child .low ∷ cond (e .pending) 1 0 ∷ []
