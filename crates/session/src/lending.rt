@@ -1,5 +1,4 @@
 // What a session lends, and the lines that set it.
-use crate::store_lines;
 use session_text::names;
 use session_text::numbers::four;
 use session_text::numbers::set;
@@ -74,7 +73,7 @@ fn set_words(call: u64, words: &mut [u64], n: &[u64]) {
         names::WORDS => fill(words, word(n, 1)),
         names::SET => set(words, word(n, 0) as usize, word(n, 1)),
         names::STORE => copy(n, words),
-        names::BOOK => printing::number(store_lines::book(words, n)),
+        names::BOOK => printing::number(session_store::book(words, n)),
         _ => {}
     }
 }

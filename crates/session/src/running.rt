@@ -1,9 +1,7 @@
 // One line: read, run, and answered by one line.
 use crate::lending;
 use crate::lending::Desk;
-use crate::listed;
 use crate::path_lines;
-use crate::store_lines;
 use crate::term_lines;
 use session_text::lent::MOST_WORDS;
 use session_text::names;
@@ -14,9 +12,9 @@ use session_text::shown;
 // A call that may alter the store.
 fn alter(call: u64, s: &mut [u64], path: &mut [u64; 4], n: &[u64], desk: Desk) {
     if call < names::SEGMENT {
-        store_lines::alter(call, s, path, n);
+        session_store::alter(call, s, path, n);
     } else {
-        listed::run(call, s, path, n, desk.elected, desk.moved);
+        session_lists::run(call, s, path, n, desk.elected, desk.moved);
     }
 }
 
@@ -31,7 +29,7 @@ fn watch(call: u64, s: &mut [u64], path: &mut [u64; 4], n: &[u64], desk: Desk) {
 // A call on the words that are lent.
 fn on_store(call: u64, s: &mut [u64], path: &mut [u64; 4], n: &[u64], desk: Desk) {
     if call < names::LAYOUT {
-        store_lines::read(call, &s[..], n);
+        session_store::read(call, &s[..], n);
     } else {
         watch(call, s, path, n, desk);
     }

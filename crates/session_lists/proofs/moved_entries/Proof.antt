@@ -1,9 +1,9 @@
--- `session::listed::moved_entries` is safe and ends. The measure is what is left of the list.
+-- `session_lists::moved_entries` is safe and ends. The measure is what is left of the list.
 use Prim.Native.Nat.{_≤_, _-_}
 use lib.ListN.{length}
 use borrow.Author.Needs.{needs}
-use Rattle.session.proofs.listed.moved_entries.Statement.{statement}
-use Rattle.session.proofs.listed.moved_entries.Tie as tie
+use Rattle.session_lists.proofs.moved_entries.Statement.{statement}
+use Rattle.session_lists.proofs.moved_entries.Tie as tie
 
 abbrev Inv-loop : tie.InvT-loop
 Inv-loop list i₀ i = i ≤ length list

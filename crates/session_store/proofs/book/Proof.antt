@@ -1,10 +1,10 @@
--- `session::store_lines::book` is safe and ends. The measure is how many stops are left.
+-- `session_store::book` is safe and ends. The measure is how many stops are left.
 use Prim.Native.Nat.{_≤_, _-_}
 use lib.ListN.{length}
 use mathlib.Core.Path.{_≡_}
 use borrow.Author.Needs.{needs}
-use Rattle.session.proofs.store_lines.book.Statement.{statement}
-use Rattle.session.proofs.store_lines.book.Tie as tie
+use Rattle.session_store.proofs.book.Statement.{statement}
+use Rattle.session_store.proofs.book.Tie as tie
 
 abbrev Inv-loop : tie.InvT-loop
 Inv-loop s₀ n count r₀ k₀ s r k = (k ≤ count) × (length s ≡ length s₀)
