@@ -2,15 +2,28 @@
 use book::EvaluationAnswer;
 use book::PassAnswer;
 use book::Settings;
-use term_answers::protection_of;
+use stop_protection::NewProtection;
+use stop_protection::Protection;
+use stop_protection::StopProtection;
 use uuid::Uuid;
 ghost use mathlib.Core.Path.{_≡_};
-ghost use Rattle.host_words.specs.Arguments.{settingsOf};
+ghost use Rattle.host_words.specs.Arguments.{protectionOf, settingsOf};
 ghost use Rattle.book.specs.Answers.{toldCounts, toldPass};
-ghost use Rattle.host_words.specs.Answers.{number, answered, countsWords, passWords};
+ghost use Rattle.host_words.specs.Answers.{Told, countsWords, passWords};
 
 // ---------------------------------------------------------------------
 // Admission, change and settings
+
+// A collar of 0 is none.
+pub fn protection_of(collar: u64) -> Protection
+    ensures { λ r. ⌜ r ≡ protectionOf collar ⌝ }
+{
+    let made = StopProtection::try_new(collar);
+    match made {
+        NewProtection::Ok(protection) => Protection::Collar(protection),
+        NewProtection::Err(_) => Protection::None,
+    }
+}
 
 // Kill switch, collar, namespace high, namespace low.
 pub fn settings_of(w: &[u64; 4]) -> Settings
@@ -30,8 +43,7 @@ pub fn settings_of(w: &[u64; 4]) -> Settings
 // Answers
 
 pub fn of_evaluation(r: EvaluationAnswer, answer: &mut [u64; 2]) -> u64
-    ensures { λ k. ⌜ k ≡ number (toldCounts r) ⌝ }
-    ensures { λ _. ⌜ now (answer .exit) ≡ answered countsWords (toldCounts r) (now (answer .entry)) ⌝ }
+    ensures { λ k. ⌜ Told countsWords (toldCounts r) (now (answer .entry)) k (now (answer .exit)) ⌝ }
 {
     match r {
         EvaluationAnswer::Ok(c) => {
@@ -43,8 +55,7 @@ pub fn of_evaluation(r: EvaluationAnswer, answer: &mut [u64; 2]) -> u64
 }
 
 pub fn of_pass(r: PassAnswer, answer: &mut [u64; 3]) -> u64
-    ensures { λ k. ⌜ k ≡ number (toldPass r) ⌝ }
-    ensures { λ _. ⌜ now (answer .exit) ≡ answered passWords (toldPass r) (now (answer .entry)) ⌝ }
+    ensures { λ k. ⌜ Told passWords (toldPass r) (now (answer .entry)) k (now (answer .exit)) ⌝ }
 {
     match r {
         PassAnswer::Ok(c) => {

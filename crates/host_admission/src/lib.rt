@@ -1,18 +1,32 @@
-// Admission for hosts: every argument as words. Asked before all else: is each value known (255)?
-use change_words::admission_known;
+// Admission for hosts: every argument as words. `yubtomiq` says what it does.
+use book::AdmissionAnswer;
 use host_words::UNKNOWN;
 use path_words::last_price_of;
+use path_words::path_known;
 use path_words::path_of;
 use path_words::path_words;
 use pricelevel::Quantity;
-use store_answers::of_admission;
+use term_words::id_known;
 use term_words::id_of;
+use term_words::terms_known;
 use term_words::terms_of;
 ghost use mathlib.Core.Path.{_≡_};
+ghost use Rattle.book.specs.Answers.{toldAdmission};
 ghost use Rattle.host_words.specs.Answers.{Told, seqWords};
 ghost use Rattle.host_words.specs.ByWords.{admitByWords};
 
-// Admits a stop, and answers its sequence. Refused: 255, 1, 3 to 11.
+fn of_admission(r: AdmissionAnswer, answer: &mut [u64; 1]) -> u64
+    ensures { λ k. ⌜ Told seqWords (toldAdmission r) (now (answer .entry)) k (now (answer .exit)) ⌝ }
+{
+    match r {
+        AdmissionAnswer::Ok(seq) => {
+            *answer = [seq.0];
+            0
+        }
+        AdmissionAnswer::Err(e) => e.number(),
+    }
+}
+
 pub fn admit_trailing_stop(
     s: &mut [u64],
     path: &mut [u64; 4],
@@ -28,7 +42,13 @@ pub fn admit_trailing_stop(
         × (now (s .exit) ≡ o .words)
         × (now (path .exit) ≡ o .path)) ⌝ }
 {
-    if !admission_known(id, terms, path) {
+    if !id_known(id) {
+        return UNKNOWN;
+    }
+    if !terms_known(terms) {
+        return UNKNOWN;
+    }
+    if !path_known(path) {
         return UNKNOWN;
     }
     let admitted = admission::admit_trailing_stop(

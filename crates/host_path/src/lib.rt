@@ -1,4 +1,4 @@
-// The print path for hosts, as four words. Asked before all else: is each flag known (255)?
+// The print path for hosts, as four words. `yubtomiq` says what each call does.
 use host_words::UNKNOWN;
 use path_words::last_price_of;
 use path_words::path_known;
@@ -10,7 +10,6 @@ ghost use mathlib.Core.Path.{_≡_};
 ghost use Rattle.host_words.specs.Answers.{Told, number, segmentWords};
 ghost use Rattle.host_words.specs.ByWords.{recordByWords, takeByWords, resetByWords};
 
-// Records a print, given how many stops are pending. Refused: 255.
 pub fn record_print(path: &mut [u64; 4], pending: u64, prev: &[u64; 2], price: u64) -> u64
     ensures { λ r. ⌜ (let o = recordByWords pending (now (prev .entry)) price (now (path .entry)) in
         (r ≡ number (o .answer))
@@ -25,8 +24,6 @@ pub fn record_print(path: &mut [u64; 4], pending: u64, prev: &[u64; 2], price: u
     0
 }
 
-// Takes the path's segment, up to the last trade, closes the path, and answers the segment if there was one. Refused:
-// 255.
 pub fn take_path(path: &mut [u64; 4], trade: &[u64; 2], answer: &mut [u64; 5]) -> u64
     ensures { λ r. ⌜ (let o = takeByWords (now (trade .entry)) (now (path .entry)) in
         Told segmentWords (o .answer) (now (answer .entry)) r (now (answer .exit))
@@ -45,7 +42,6 @@ pub fn take_path(path: &mut [u64; 4], trade: &[u64; 2], answer: &mut [u64; 5]) -
     0
 }
 
-// Closes the path. Refused: 255.
 pub fn reset_path(path: &mut [u64; 4]) -> u64
     ensures { λ r. ⌜ (let o = resetByWords (now (path .entry)) in
         (r ≡ number (o .answer))

@@ -1,19 +1,39 @@
-// Layout, form check, totals and clear for hosts: every argument as words. Asked before all else: is the path's every
-// flag known (255)?
+// Layout, form check, totals and clear for hosts: every argument as words. `yubtomiq` says what each call does.
+use book::LayoutAnswer;
+use book::QuantityAnswer;
 use host_words::UNKNOWN;
 use path_words::flag;
 use path_words::path_known;
 use path_words::path_of;
 use path_words::path_words;
-use store_answers::of_layout;
-use store_answers::of_quantity;
 ghost use mathlib.Core.Path.{_≡_};
+ghost use Rattle.book.specs.Answers.{toldLayout, toldQuantity};
 ghost use Rattle.book.specs.Store.{layOut, pendingQuantity};
 ghost use Rattle.book.specs.Words.{wellFormed};
 ghost use Rattle.host_words.specs.Answers.{Told, number, flag, totalsWords};
 ghost use Rattle.host_words.specs.ByWords.{clearByWords};
 
-// Lays out an empty store of n records. Refused: 2.
+fn of_layout(r: LayoutAnswer) -> u64
+    ensures { λ k. ⌜ k ≡ number (toldLayout r) ⌝ }
+{
+    match r {
+        LayoutAnswer::Ok => 0,
+        LayoutAnswer::Err(e) => e.number(),
+    }
+}
+
+fn of_quantity(r: QuantityAnswer, answer: &mut [u64; 4]) -> u64
+    ensures { λ k. ⌜ Told totalsWords (toldQuantity r) (now (answer .entry)) k (now (answer .exit)) ⌝ }
+{
+    match r {
+        QuantityAnswer::Ok(t) => {
+            *answer = [t.sell.high, t.sell.low, t.buy.high, t.buy.low];
+            0
+        }
+        QuantityAnswer::Err(e) => e.number(),
+    }
+}
+
 pub fn layout_store(s: &mut [u64], n: u64, tick: u64) -> u64
     ensures { λ r. ⌜ (let o = layOut n tick (now (s .entry)) in
         (r ≡ number (o .answer))
@@ -22,21 +42,18 @@ pub fn layout_store(s: &mut [u64], n: u64, tick: u64) -> u64
     of_layout(store_layout::layout_store(s, n, tick))
 }
 
-// Whether the words are a well-formed store: 1 or 0.
 pub fn well_formed(s: &[u64]) -> u64
     ensures { λ r. ⌜ r ≡ flag (wellFormed (now (s .entry))) ⌝ }
 {
     flag(form::well_formed(s))
 }
 
-// Answers the pending quantity of each side; the store is only read. Refused: 1.
 pub fn pending_stop_quantity(s: &[u64], answer: &mut [u64; 4]) -> u64
     ensures { λ r. ⌜ Told totalsWords (pendingQuantity (now (s .entry))) (now (answer .entry)) r (now (answer .exit)) ⌝ }
 {
     of_quantity(store_calls::pending_stop_quantity(s), answer)
 }
 
-// Lays the store out anew with the same number of records and tick, and resets the path. Refused: 255, 1.
 pub fn clear(s: &mut [u64], path: &mut [u64; 4]) -> u64
     ensures { λ r. ⌜ (let o = clearByWords (now (s .entry)) (now (path .entry)) in
         (r ≡ number (o .answer))

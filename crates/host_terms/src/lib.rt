@@ -1,19 +1,39 @@
-// The terms of a stop and the preview for hosts: every argument as words. Asked before all else: is each value known
-// (255)?
+// The terms of a stop and the preview for hosts: every argument as words. `yubtomiq` says what each call does.
 use host_words::UNKNOWN;
 use path_words::flag;
 use pricelevel::Price;
-use term_answers::of_inconsistency;
-use term_answers::preview_words;
+use repricing::TrailingStopPrice;
+use stop_terms::Inconsistency;
 use term_words::side_known;
 use term_words::terms_known;
 use term_words::terms_of;
 use term_words::terms_words;
 ghost use mathlib.Core.Path.{_≡_};
-ghost use Rattle.host_words.specs.Answers.{Told, flag, termsWords, previewWords};
+ghost use Rattle.repricing.specs.Preview.{toldPreview};
+ghost use Rattle.stop_terms.specs.Terms.{inconsistencyNumber};
+ghost use Rattle.host_words.specs.Answers.{Told, flag, orZero, termsWords, previewWords};
 ghost use Rattle.host_words.specs.ByWords.{trailedByWords, electedByWords, inconsistencyByWords, previewByWords};
 
-// Answers the terms after a trade. Refused: 255.
+fn preview_words(next: TrailingStopPrice) -> [u64; 3]
+    ensures { λ r. ⌜ r ≡ previewWords (toldPreview next) ⌝ }
+{
+    match next {
+        TrailingStopPrice::None => [0, 0, 0],
+        TrailingStopPrice::Adjusted(a) => [1, a.stop.0, a.reference.0],
+    }
+}
+
+fn of_inconsistency(r: Inconsistency) -> u64
+    ensures { λ k. ⌜ k ≡ orZero (inconsistencyNumber r) ⌝ }
+{
+    match r {
+        Inconsistency::None => 0,
+        Inconsistency::ZeroTrail => 5,
+        Inconsistency::SellAboveWatermark => 6,
+        Inconsistency::BuyBelowWatermark => 6,
+    }
+}
+
 pub fn trailed(terms: &[u64; 4], price: u64, answer: &mut [u64; 4]) -> u64
     ensures { λ r. ⌜ Told termsWords (trailedByWords (now (terms .entry)) price) (now (answer .entry)) r (now (answer .exit)) ⌝ }
 {
@@ -25,7 +45,6 @@ pub fn trailed(terms: &[u64; 4], price: u64, answer: &mut [u64; 4]) -> u64
     0
 }
 
-// Whether a trade elects the stop: 1 or 0; or 255.
 pub fn elected_by(terms: &[u64; 4], price: u64) -> u64
     ensures { λ r. ⌜ r ≡ electedByWords (now (terms .entry)) price ⌝ }
 {
@@ -36,8 +55,6 @@ pub fn elected_by(terms: &[u64; 4], price: u64) -> u64
     flag(of.elected_by(Price(price)))
 }
 
-// The inconsistency of the terms: 0 for none, a trail of zero (5), a stop on the wrong side of its watermark (6); or
-// 255.
 pub fn inconsistency(terms: &[u64; 4]) -> u64
     ensures { λ r. ⌜ r ≡ inconsistencyByWords (now (terms .entry)) ⌝ }
 {
@@ -48,7 +65,6 @@ pub fn inconsistency(terms: &[u64; 4]) -> u64
     of_inconsistency(of.inconsistency())
 }
 
-// Answers the preview of a trailing stop: the new stop and reference, if there are any. Refused: 255.
 pub fn calculate_trailing_stop_price(
     side: u64,
     current_stop_price: u64,

@@ -3,121 +3,60 @@
 use Prim.Native.Nat.{ℕ, zero, suc}
 use mathlib.Core.Bool.{Bool, true, false, cond, _&&_}
 use mathlib.Core.List.{List, [], _∷_}
-use mathlib.Core.Option.{Option, none, some}
 use mathlib.Core.Path.{_≡_, refl, ap, _∙_}
 use native.Mathlib.Omega.{arith}
 use borrow.Author.Tests.{leb-true}
 use lib.Dec.{leb}
-use Rattle.error.specs.Answer.{refused, accepted}
 use Rattle.pricelevel.proofs.Bools.{and-parts}
-use Rattle.pricelevel.specs.declared.Id.{Id}
-use Rattle.pricelevel.specs.declared.Quantity.{Quantity}
-use Rattle.stop_terms.specs.declared.StopTerms.{StopTerms}
-use Rattle.book.proofs.Refusals.{runCall-refused}
-use Rattle.book.specs.Calls as calls
-use Rattle.error.specs.Questions.{question, firstNo, decide}
-use Rattle.book.specs.Store.{PathOutcome, admissionQuestions, admit, clear}
-use Rattle.book.specs.Words.{wellFormed}
-use Rattle.book.specs.declared.LastPrice.{LastPrice}
-use Rattle.book.specs.declared.PrintPath.{PrintPath}
+use Rattle.book.proofs.Refusals.{Refused, admit-refused, clear-refused, runCall-refused}
 use Rattle.host_words.specs.Answers.{pathWords}
 use Rattle.host_words.specs.Arguments.{isOn, idKnown, idOf, termsKnown, termsOf, lastPriceOf, pathKnown, pathOf, settingsOf}
-use Rattle.host_words.specs.ByWords.{unknown, hosted, RunOutcome, hostedRun, admitByWords, clearByWords, runByWords}
-
-------------------------------------------------------------------------
--- The words of a path
+use Rattle.host_words.specs.ByWords.{HostOutcome, RunOutcome, hostedRun, admitByWords, clearByWords, runByWords}
 
 flag-isOn : (f : ℕ) → leb f 1 ≡ true → cond (isOn f) 1 0 ≡ f
 flag-isOn zero h = refl
 flag-isOn (suc zero) h = refl
 flag-isOn (suc (suc f)) h = omega (arith, leb-true (suc (suc f)) 1 h)
 
--- those of a known path are those that it was read from
-pub pathWords-pathOf : (a b p f : ℕ) → pathKnown (a ∷ b ∷ p ∷ f ∷ []) ≡ true
-    → pathWords (pathOf (a ∷ b ∷ p ∷ f ∷ [])) ≡ a ∷ b ∷ p ∷ f ∷ []
-unfolding pathWords pathOf pathKnown
-pathWords-pathOf a b p f h =
-    let t = and-parts _ _ h in
-    rw (flag-isOn a (t .0), flag-isOn b (t .1))
+-- what holds of a call where its values are known, and where they are not
+either : {O : Type 0} (Kept : O → Type 0) (known : Bool) (read unread : O) → (known ≡ true → Kept read) → Kept unread
+    → Kept (cond known read unread)
+either Kept true read unread h g = h refl
+either Kept false read unread h g = g
 
-------------------------------------------------------------------------
--- Admission and clear
-
-module _ {A : Type 0} (k : ℕ) (w : List ℕ) where
-  decided-stays : (q : Option ℕ) (p : PrintPath) (o : PathOutcome A) (x : A) → o .answer ≡ accepted x
-      → decide q (λ n. record { answer = refused n; words = w; path = p }) o .answer ≡ refused k
-      → (decide q (λ n. record { answer = refused n; words = w; path = p }) o .words ≡ w)
-      × (decide q (λ n. record { answer = refused n; words = w; path = p }) o .path ≡ p)
-  unfolding decide
-  decided-stays none p o x e h = let z : _≡_ {A = ℕ} 0 1 = cc in absurd (omega arith)
-  decided-stays (some n) p o x e h = (refl, refl)
-
-  known-stays : (known : Bool) (path : List ℕ) (o : PathOutcome A) (p : PrintPath) → (known ≡ true → pathWords p ≡ path)
-      → (o .answer ≡ refused k → (o .words ≡ w) × (o .path ≡ p))
-      → cond known (hosted o) (record { answer = unknown; words = w; path = path }) .answer ≡ refused k
-      → (cond known (hosted o) (record { answer = unknown; words = w; path = path }) .words ≡ w)
-      × (cond known (hosted o) (record { answer = unknown; words = w; path = path }) .path ≡ path)
-  unfolding hosted
-  known-stays true path o p e stays h = let t = stays h in (t .0, ap pathWords (t .1) ∙ e refl)
-  known-stays false path o p e stays h = (refl, refl)
-
-module _ (a b p f k : ℕ) (w : List ℕ) where
+module _ (a b p f : ℕ) (w : List ℕ) where
   abbrev path : List ℕ
   path = a ∷ b ∷ p ∷ f ∷ []
 
-  admit-stays : (kill : Bool) (trade : LastPrice) (id : Id) (terms : StopTerms) (quantity : Quantity) (q : PrintPath)
-      → admit kill trade id terms quantity w q .answer ≡ refused k
-      → (admit kill trade id terms quantity w q .words ≡ w) × (admit kill trade id terms quantity w q .path ≡ q)
-  unfolding admit
-  admit-stays kill trade id terms quantity q h =
-      decided-stays k w (firstNo (admissionQuestions kill trade id terms quantity w)) q _ _ refl h
+  -- the words of a known path are those that it was read from
+  pathWords-pathOf : pathKnown path ≡ true → pathWords (pathOf path) ≡ path
+  pathWords-pathOf h = let t = and-parts _ _ h in rw (flag-isOn a (t .0), flag-isOn b (t .1))
+
+  abbrev Left : {A : Type 0} → HostOutcome A → Type 0
+  Left o = Refused (o .answer) → (o .words ≡ w) × (o .path ≡ path)
 
   pub admit-refused-stays : (kill : ℕ) (trade id terms : List ℕ) (quantity : ℕ)
-      → admitByWords kill trade id terms quantity w path .answer ≡ refused k
-      → (admitByWords kill trade id terms quantity w path .words ≡ w)
-      × (admitByWords kill trade id terms quantity w path .path ≡ path)
-  unfolding admitByWords
-  admit-refused-stays kill trade id terms quantity h =
-      known-stays k w (idKnown id && (termsKnown terms && pathKnown path)) path _ (pathOf path)
-      (λ e. pathWords-pathOf a b p f (and-parts (termsKnown terms) _ (and-parts (idKnown id) _ e .1) .1))
-      (admit-stays (isOn kill) (lastPriceOf trade) (idOf id) (termsOf terms) (record { 0 = quantity }) (pathOf path)) h
+      → Left (admitByWords kill trade id terms quantity w path)
+  admit-refused-stays kill trade id terms quantity =
+      either (λ o. Left o) (idKnown id && (termsKnown terms && pathKnown path)) _ _
+      (λ e r. let known = and-parts (termsKnown terms) _ (and-parts (idKnown id) _ e .1) .1 in
+      let t = admit-refused (isOn kill) (lastPriceOf trade) (idOf id) (termsOf terms) _ w (pathOf path) r in
+      (t .0, ap pathWords (t .1) ∙ pathWords-pathOf known)) (λ r. (refl, refl))
 
-  clear-stays : (q : PrintPath) → clear w q .answer ≡ refused k → (clear w q .words ≡ w) × (clear w q .path ≡ q)
-  unfolding clear
-  clear-stays q h = decided-stays k w (firstNo (question 1 (wellFormed w) ∷ [])) q _ _ refl h
+  pub clear-refused-stays : Left (clearByWords w path)
+  clear-refused-stays =
+      either (λ o. Left o) (pathKnown path) _ _
+      (λ e r. let t = clear-refused w (pathOf path) r in (t .0, ap pathWords (t .1) ∙ pathWords-pathOf e))
+      (λ r. (refl, refl))
 
-  pub clear-refused-stays : clearByWords w path .answer ≡ refused k
-      → (clearByWords w path .words ≡ w) × (clearByWords w path .path ≡ path)
-  unfolding clearByWords
-  clear-refused-stays h =
-      known-stays k w (pathKnown path) path _ (pathOf path) (λ e. pathWords-pathOf a b p f e)
-      (clear-stays (pathOf path)) h
-
-------------------------------------------------------------------------
--- Run
-
-module _ (k : ℕ) (w : List ℕ) (elected : ℕ) where
-  abbrev unread : List ℕ → RunOutcome
-  unread path = record { answer = unknown; words = w; elected = []; path = path }
-
-  run-known-stays : (known : Bool) (path : List ℕ) (o : calls.RunOutcome) (p : PrintPath)
-      → (known ≡ true → pathWords p ≡ path)
-      → (o .answer ≡ refused k → (o .words ≡ w) × (o .elected ≡ []) × (o .path ≡ p))
-      → cond known (hostedRun o) (unread path) .answer ≡ refused k
-      → (cond known (hostedRun o) (unread path) .words ≡ w) × (cond known (hostedRun o) (unread path) .elected ≡ [])
-      × (cond known (hostedRun o) (unread path) .path ≡ path)
-  unfolding hostedRun
-  run-known-stays true path o p e stays h = let t = stays h in (t .0, t .1, ap pathWords (t .2) ∙ e refl)
-  run-known-stays false path o p e stays h = (refl, refl, refl)
-
-  pub run-refused-stays : (a b p f : ℕ) (settings script trade : List ℕ)
-      → runByWords settings script trade w elected (a ∷ b ∷ p ∷ f ∷ []) .answer ≡ refused k
-      → (runByWords settings script trade w elected (a ∷ b ∷ p ∷ f ∷ []) .words ≡ w)
-      × (runByWords settings script trade w elected (a ∷ b ∷ p ∷ f ∷ []) .elected ≡ [])
-      × (runByWords settings script trade w elected (a ∷ b ∷ p ∷ f ∷ []) .path ≡ a ∷ b ∷ p ∷ f ∷ [])
-  unfolding runByWords
-  run-refused-stays a b p f settings script trade h =
-      run-known-stays (pathKnown (a ∷ b ∷ p ∷ f ∷ [])) (a ∷ b ∷ p ∷ f ∷ []) _ (pathOf (a ∷ b ∷ p ∷ f ∷ []))
-      (λ e. pathWords-pathOf a b p f e)
-      (λ q. runCall-refused (settingsOf settings) w elected script (lastPriceOf trade) (pathOf (a ∷ b ∷ p ∷ f ∷ []))
-      (k, q)) h
+  pub run-refused-stays : (settings script trade : List ℕ) (elected : ℕ)
+      → Refused (runByWords settings script trade w elected path .answer)
+      → (runByWords settings script trade w elected path .words ≡ w)
+      × (runByWords settings script trade w elected path .elected ≡ [])
+      × (runByWords settings script trade w elected path .path ≡ path)
+  unfolding runByWords hostedRun
+  run-refused-stays settings script trade elected =
+      either (λ (o : RunOutcome). Refused (o .answer) → (o .words ≡ w) × (o .elected ≡ []) × (o .path ≡ path))
+      (pathKnown path) _ _
+      (λ e r. let t = runCall-refused (settingsOf settings) w elected script (lastPriceOf trade) (pathOf path) r in
+      (t .0, t .1, ap pathWords (t .2) ∙ pathWords-pathOf e)) (λ r. (refl, refl, refl))

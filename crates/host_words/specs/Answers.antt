@@ -1,7 +1,7 @@
 -- The words of what a call answers.
 use Prim.Native.Nat.{ℕ}
 use mathlib.Core.Bool.{Bool, cond}
-use mathlib.Core.List.{List, [], _∷_}
+use mathlib.Core.List.{List, [], _∷_, _++_}
 use mathlib.Core.Option.{Option, none, some}
 use mathlib.Core.Path.{_≡_}
 use lib.ListN.{replicate}
@@ -12,6 +12,7 @@ use Rattle.pricelevel.specs.declared.Id.{Id}
 use Rattle.pricelevel.specs.declared.Seq.{Seq}
 use Rattle.repricing.specs.declared.Adjustment.{Adjustment}
 use Rattle.stop_protection.specs.declared.Limit.{Limit}
+use Rattle.stop_protection.specs.declared.Limit.the-variants as limit
 use Rattle.stop_terms.specs.declared.StopTerms.{StopTerms}
 use Rattle.book.specs.declared.Counts.{Counts}
 use Rattle.book.specs.declared.PassCounts.{PassCounts}
@@ -21,7 +22,6 @@ use Rattle.book.specs.declared.LastPrice.the-variants as last
 use Rattle.book.specs.declared.PrintPath.{PrintPath}
 use Rattle.book.specs.declared.PrintSegment.{PrintSegment}
 use Rattle.book.specs.declared.StopEntry.{StopEntry}
-use Rattle.book.specs.Entries.{limitPresent, limitWord}
 
 -- what a call returns: 0 where it is accepted, else document 01's number of the refusal
 unfoldable pub number : {A : Type 0} → Answer A → ℕ
@@ -38,7 +38,7 @@ abbrev pub Told : {A : Type 0} → (A → List ℕ) → Answer A → List ℕ �
 Told words a lent r after = (r ≡ number a) × (after ≡ answered words a lent)
 
 -- the question that an inconsistency answers no, or 0
-unfoldable pub orZero : Option ℕ → ℕ
+abbrev pub orZero : Option ℕ → ℕ
 orZero none = 0
 orZero (some k) = k
 
@@ -46,63 +46,60 @@ abbrev pub flag : Bool → ℕ
 flag b = cond b 1 0
 
 -- the sequence
-unfoldable pub seqWords : Seq → List ℕ
+abbrev pub seqWords : Seq → List ℕ
 seqWords seq = seq .0 ∷ []
 
 -- kind, high, low
-unfoldable pub idWords : Id → List ℕ
+abbrev pub idWords : Id → List ℕ
 idWords id = kindNumber (id .kind) ∷ id .high ∷ id .low ∷ []
 
 -- side, stop, watermark, trail
-unfoldable pub termsWords : StopTerms → List ℕ
+abbrev pub termsWords : StopTerms → List ℕ
 termsWords t = sideNumber (t .side) ∷ t .stop .0 ∷ t .watermark .0 ∷ t .trail ∷ []
 
 -- kind, high, low, side, stop, watermark, trail, quantity, sequence: the order of a stored record's words
-unfoldable pub stopWords : StopEntry → List ℕ
+abbrev pub stopWords : StopEntry → List ℕ
 stopWords t =
     kindNumber (t .id .kind) ∷ t .id .high ∷ t .id .low ∷ sideNumber (t .terms .side) ∷ t .terms .stop .0 ∷ t .terms .watermark .0
     ∷ t .terms .trail ∷ t .quantity .0 ∷ t .seq .0 ∷ []
 
 -- open, prev present, prev, first
-unfoldable pub pathWords : PrintPath → List ℕ
+abbrev pub pathWords : PrintPath → List ℕ
 pathWords path = flag (path .«open») ∷ flag (path .«has_prev») ∷ path .prev .0 ∷ path .first .0 ∷ []
 
 -- a price that may be absent: present (0, 1), and the price or 0
-unfoldable pub presentIn : LastPrice → ℕ
-presentIn last.None = 0
-presentIn (last.At p) = 1
-
-unfoldable pub priceIn : LastPrice → ℕ
-priceIn last.None = 0
-priceIn (last.At p) = p .0
+abbrev pub priceWords : LastPrice → List ℕ
+priceWords last.None = replicate 2 0
+priceWords (last.At p) = 1 ∷ p .0 ∷ []
 
 -- a segment, if there is one, as a script entry: printed (0, 1), prev present (0, 1), prev, first, last
-unfoldable pub segmentWords : Option PrintSegment → List ℕ
+abbrev pub segmentWords : Option PrintSegment → List ℕ
 segmentWords none = replicate 5 0
-segmentWords (some s) = 1 ∷ presentIn (s .prev) ∷ priceIn (s .prev) ∷ s .first .0 ∷ s .last .0 ∷ []
+segmentWords (some s) = 1 ∷ (priceWords (s .prev) ++ (s .first .0 ∷ s .last .0 ∷ []))
 
 -- found (0, 1), and the words of the stop or zeros
-unfoldable pub foundWords : Option StopEntry → List ℕ
+abbrev pub foundWords : Option StopEntry → List ℕ
 foundWords none = replicate 10 0
 foundWords (some t) = 1 ∷ stopWords t
 
 -- of the sells high, low; of the buys high, low
-unfoldable pub totalsWords : Totals → List ℕ
+abbrev pub totalsWords : Totals → List ℕ
 totalsWords t = t .sell .high ∷ t .sell .low ∷ t .buy .high ∷ t .buy .low ∷ []
 
 -- moves, elected
-unfoldable pub countsWords : Counts → List ℕ
+abbrev pub countsWords : Counts → List ℕ
 countsWords c = c .moves ∷ c .elected ∷ []
 
 -- moves, elected, used
-unfoldable pub passWords : PassCounts → List ℕ
+abbrev pub passWords : PassCounts → List ℕ
 passWords c = c .moves ∷ c .elected ∷ c .used ∷ []
 
 -- adjusted (0, 1), and the new stop and reference or zeros
-unfoldable pub previewWords : Option Adjustment → List ℕ
+abbrev pub previewWords : Option Adjustment → List ℕ
 previewWords none = replicate 3 0
 previewWords (some a) = 1 ∷ a .stop .0 ∷ a .reference .0 ∷ []
 
 -- present (0, 1), and the limit or 0
-unfoldable pub limitWords : Limit → List ℕ
-limitWords l = limitPresent l ∷ limitWord l ∷ []
+abbrev pub limitWords : Limit → List ℕ
+limitWords limit.None = replicate 2 0
+limitWords (limit.At price) = 1 ∷ price .0 ∷ []

@@ -1,15 +1,18 @@
 -- What the words of an argument stand for. Those of a kind, a side, a change and a path's flags may be unknown; any but
 -- 0 is on for a kill switch and for a price that may be absent.
-use Prim.Native.Nat.{ℕ, zero, suc}
+use Prim.Native.Nat.{ℕ}
 use mathlib.Core.Bool.{Bool, not, cond, _&&_, _||_}
 use mathlib.Core.List.{List}
 use lib.Dec.{leb, eqb}
 use lib.ListN.{getD}
+use Rattle.error.specs.Answer.{Answer, refused, accepted}
 use Rattle.pricelevel.specs.declared.Id.{Id}
 use Rattle.pricelevel.specs.declared.Price.{Price}
 use Rattle.pricelevel.specs.declared.Quantity.{Quantity}
+use Rattle.stop_protection.specs.Collar.{tryNew}
 use Rattle.stop_protection.specs.declared.Protection.{Protection}
 use Rattle.stop_protection.specs.declared.Protection.the-variants as protection
+use Rattle.stop_protection.specs.declared.StopProtection.{StopProtection}
 use Rattle.stop_terms.specs.declared.StopTerms.{StopTerms}
 use Rattle.uuid.specs.declared.Uuid.{Uuid}
 use Rattle.book.specs.Words.{kindOf, sideFrom}
@@ -31,7 +34,7 @@ price p = record { 0 = p }
 abbrev pub idKnown : List ℕ → Bool
 idKnown w = leb (getD w 0 0) 2
 
-unfoldable pub idOf : List ℕ → Id
+abbrev pub idOf : List ℕ → Id
 idOf w = record { kind = kindOf (getD w 0 0); high = getD w 1 0; low = getD w 2 0 }
 
 -- document 01, The store: side (0 buy, 1 sell), stop, watermark, trail
@@ -41,52 +44,56 @@ sideKnown side = leb side 1
 abbrev pub termsKnown : List ℕ → Bool
 termsKnown w = sideKnown (getD w 0 0)
 
-unfoldable pub termsOf : List ℕ → StopTerms
+abbrev pub termsOf : List ℕ → StopTerms
 termsOf w = record { side = sideFrom (getD w 0 0); stop = price (getD w 1 0); watermark = price (getD w 2 0); trail = getD w 3 0 }
 
 -- a price that may be absent: present, price
-unfoldable pub lastPriceFrom : ℕ → ℕ → LastPrice
+abbrev pub lastPriceFrom : ℕ → ℕ → LastPrice
 lastPriceFrom present p = cond (eqb present 0) last.None (last.At (price p))
 
 abbrev pub lastPriceOf : List ℕ → LastPrice
 lastPriceOf w = lastPriceFrom (getD w 0 0) (getD w 1 0)
 
 -- document 01, One point, one segment, one pass: prev present, prev, first, last
-unfoldable pub printsOf : List ℕ → PrintSegment
+abbrev pub printsOf : List ℕ → PrintSegment
 printsOf w = record { prev = lastPriceFrom (getD w 0 0) (getD w 1 0); first = price (getD w 2 0); last = price (getD w 3 0) }
 
 -- the print path: open (0, 1), prev present (0, 1), prev, first
-unfoldable pub pathKnown : List ℕ → Bool
+abbrev pub pathKnown : List ℕ → Bool
 pathKnown w = leb (getD w 0 0) 1 && leb (getD w 1 0) 1
 
-unfoldable pub pathOf : List ℕ → PrintPath
+abbrev pub pathOf : List ℕ → PrintPath
 pathOf w =
     record { «open» = isOn (getD w 0 0); «has_prev» = isOn (getD w 1 0); prev = price (getD w 2 0); first = price (getD w 3 0) }
 
 -- document 01, Admission, change, cancel: change (0 quantity, 1 price, 2 price and quantity, 3 replace), side, price,
 -- quantity. Of these only what the change has is read
-unfoldable pub updateKnown : List ℕ → Bool
+abbrev pub updateKnown : List ℕ → Bool
 updateKnown w = leb (getD w 0 0) 2 || (eqb (getD w 0 0) 3 && sideKnown (getD w 1 0))
 
-unfoldable pub updateFrom : ℕ → ℕ → Price → Quantity → OrderUpdate
-updateFrom zero side p quantity = UpdateQuantity quantity
-updateFrom (suc zero) side p quantity = UpdatePrice p
-updateFrom (suc (suc zero)) side p quantity = UpdatePriceAndQuantity p quantity
-updateFrom (suc (suc (suc k))) side p quantity = Replace (sideFrom side) p quantity
+abbrev pub updateFrom : ℕ → ℕ → Price → Quantity → OrderUpdate
+updateFrom change side p quantity =
+    cond (eqb change 0) (UpdateQuantity quantity)
+    (cond (eqb change 1) (UpdatePrice p)
+    (cond (eqb change 2) (UpdatePriceAndQuantity p quantity) (Replace (sideFrom side) p quantity)))
 
-unfoldable pub updateOf : List ℕ → OrderUpdate
+abbrev pub updateOf : List ℕ → OrderUpdate
 updateOf w = updateFrom (getD w 0 0) (getD w 1 0) (price (getD w 2 0)) (record { 0 = getD w 3 0 })
 
--- a collar of 0 is none
-unfoldable pub protectionOf : ℕ → Protection
-protectionOf collar = cond (eqb collar 0) protection.None (protection.Collar (record { collar = collar }))
+-- a collar of 0, which cannot be made, is none
+abbrev pub protectionBy : Answer StopProtection → Protection
+protectionBy (refused k) = protection.None
+protectionBy (accepted p) = protection.Collar p
+
+abbrev pub protectionOf : ℕ → Protection
+protectionOf collar = protectionBy (tryNew collar)
 
 -- high, low
-unfoldable pub namespaceOf : List ℕ → Uuid
+abbrev pub namespaceOf : List ℕ → Uuid
 namespaceOf w = record { high = getD w 0 0; low = getD w 1 0 }
 
 -- kill switch, collar, namespace high, namespace low
-unfoldable pub settingsOf : List ℕ → Settings
+abbrev pub settingsOf : List ℕ → Settings
 settingsOf w = record {
   kill = isOn (getD w 0 0);
   protection = protectionOf (getD w 1 0);

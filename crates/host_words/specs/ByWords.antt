@@ -34,7 +34,7 @@ abbrev pub unknown : {A : Type 0} → Answer A
 unknown = refused 255
 
 -- the answer where every value is known
-unfoldable pub ifKnown : {A : Type 0} → Bool → A → Answer A
+abbrev pub ifKnown : {A : Type 0} → Bool → A → Answer A
 ifKnown known x = cond known (accepted x) unknown
 
 ------------------------------------------------------------------------
@@ -46,30 +46,30 @@ pub record HostOutcome (A : Type 0) : Type 0 where
   pub words : List ℕ
   pub path : List ℕ
 
-unfoldable pub hosted : {A : Type 0} → PathOutcome A → HostOutcome A
+abbrev pub hosted : {A : Type 0} → PathOutcome A → HostOutcome A
 hosted o = record { answer = o .answer; words = o .words; path = pathWords (o .path) }
 
-unfoldable pub admitByWords : ℕ → List ℕ → List ℕ → List ℕ → ℕ → List ℕ → List ℕ → HostOutcome Seq
+abbrev pub admitByWords : ℕ → List ℕ → List ℕ → List ℕ → ℕ → List ℕ → List ℕ → HostOutcome Seq
 admitByWords kill trade id terms quantity w path =
     cond (idKnown id && (termsKnown terms && pathKnown path))
     (hosted (admit (isOn kill) (lastPriceOf trade) (idOf id) (termsOf terms) (record { 0 = quantity }) w (pathOf path)))
     (record { answer = unknown; words = w; path = path })
 
-unfoldable pub clearByWords : List ℕ → List ℕ → HostOutcome (Unit {0})
+abbrev pub clearByWords : List ℕ → List ℕ → HostOutcome (Unit {0})
 clearByWords w path = cond (pathKnown path) (hosted (clear w (pathOf path))) (record { answer = unknown; words = w; path = path })
 
 ------------------------------------------------------------------------
 -- The store
 
-unfoldable pub cancelByWords : List ℕ → List ℕ → StoreOutcome StopEntry
+abbrev pub cancelByWords : List ℕ → List ℕ → StoreOutcome StopEntry
 cancelByWords id w = cond (idKnown id) (cancel (idOf id) w) (record { answer = unknown; words = w })
 
-unfoldable pub updateByWords : List ℕ → List ℕ → List ℕ → List ℕ → StoreOutcome StopEntry
+abbrev pub updateByWords : List ℕ → List ℕ → List ℕ → List ℕ → StoreOutcome StopEntry
 updateByWords id update trade w =
     cond (idKnown id && updateKnown update) (store.update (updateOf update) (idOf id) (lastPriceOf trade) w)
     (record { answer = unknown; words = w })
 
-unfoldable pub findByWords : List ℕ → List ℕ → Answer (Option StopEntry)
+abbrev pub findByWords : List ℕ → List ℕ → Answer (Option StopEntry)
 findByWords id w = cond (idKnown id) (find (idOf id) w) unknown
 
 ------------------------------------------------------------------------
@@ -80,18 +80,18 @@ pub record PathWordsOutcome (A : Type 0) : Type 0 where
   pub answer : Answer A
   pub path : List ℕ
 
-unfoldable pub onPath : {A : Type 0} → List ℕ → A → PrintPath → PathWordsOutcome A
+abbrev pub onPath : {A : Type 0} → List ℕ → A → PrintPath → PathWordsOutcome A
 onPath path answer after =
     cond (pathKnown path) (record { answer = accepted answer; path = pathWords after }) (record { answer = unknown; path = path })
 
-unfoldable pub recordByWords : ℕ → List ℕ → ℕ → List ℕ → PathWordsOutcome (Unit {0})
+abbrev pub recordByWords : ℕ → List ℕ → ℕ → List ℕ → PathWordsOutcome (Unit {0})
 recordByWords pending prev p path = onPath path tt (recorded pending (lastPriceOf prev) (price p) (pathOf path))
 
-unfoldable pub takeByWords : List ℕ → List ℕ → PathWordsOutcome (Option PrintSegment)
+abbrev pub takeByWords : List ℕ → List ℕ → PathWordsOutcome (Option PrintSegment)
 takeByWords trade path =
     onPath path (take (pathOf path) (lastPriceOf trade) .segment) (take (pathOf path) (lastPriceOf trade) .path)
 
-unfoldable pub resetByWords : List ℕ → PathWordsOutcome (Unit {0})
+abbrev pub resetByWords : List ℕ → PathWordsOutcome (Unit {0})
 resetByWords path = onPath path tt (closed (pathOf path))
 
 ------------------------------------------------------------------------
@@ -123,27 +123,27 @@ runByWords settings script trade w elected path =
 ------------------------------------------------------------------------
 -- Terms, limit and child
 
-unfoldable pub trailedByWords : List ℕ → ℕ → Answer StopTerms
+abbrev pub trailedByWords : List ℕ → ℕ → Answer StopTerms
 trailedByWords terms p = ifKnown (termsKnown terms) (trailedAt (termsOf terms) (price p))
 
 -- 1 or 0, or 255
-unfoldable pub electedByWords : List ℕ → ℕ → ℕ
+abbrev pub electedByWords : List ℕ → ℕ → ℕ
 electedByWords terms p = cond (termsKnown terms) (flag (electedAt (termsOf terms) (price p))) 255
 
-unfoldable pub inconsistencyByWords : List ℕ → ℕ
+abbrev pub inconsistencyByWords : List ℕ → ℕ
 inconsistencyByWords terms = cond (termsKnown terms) (orZero (inconsistencyNumber (inconsistencyOf (termsOf terms)))) 255
 
-unfoldable pub previewByWords : ℕ → ℕ → ℕ → ℕ → ℕ → Answer (Option Adjustment)
+abbrev pub previewByWords : ℕ → ℕ → ℕ → ℕ → ℕ → Answer (Option Adjustment)
 previewByWords side stop trail reference p =
     ifKnown (sideKnown side) (preview (sideFrom side) (price stop) trail (price reference) (price p))
 
-unfoldable pub limitByWords : ℕ → ℕ → ℕ → Answer Limit
+abbrev pub limitByWords : ℕ → ℕ → ℕ → Answer Limit
 limitByWords collar side stop = ifKnown (sideKnown side) (limitUnder (protectionOf collar) (sideFrom side) (price stop))
 
 -- a collar is made before it is held against a tick
-unfoldable pub checkOf : ℕ → Answer StopProtection → Answer (Unit {0})
+abbrev pub checkOf : ℕ → Answer StopProtection → Answer (Unit {0})
 checkOf tick (refused k) = refused k
 checkOf tick (accepted p) = checkTickSize (p .collar) tick
 
-unfoldable pub childByWords : List ℕ → List ℕ → Answer Id
+abbrev pub childByWords : List ℕ → List ℕ → Answer Id
 childByWords namespace id = ifKnown (idKnown id) (childId (namespaceOf namespace) (idOf id))

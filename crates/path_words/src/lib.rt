@@ -8,7 +8,7 @@ use print_path::NextSegment;
 ghost use mathlib.Core.Path.{_≡_};
 ghost use Rattle.host_words.specs.Arguments.{lastPriceFrom, lastPriceOf, printsOf, pathKnown, pathOf};
 ghost use Rattle.print_path.specs.Segments.{toldNext};
-ghost use Rattle.host_words.specs.Answers.{flag, pathWords, presentIn, priceIn, segmentWords};
+ghost use Rattle.host_words.specs.Answers.{flag, pathWords, segmentWords};
 
 // ---------------------------------------------------------------------
 // Prices and the print path
@@ -17,7 +17,8 @@ ghost use Rattle.host_words.specs.Answers.{flag, pathWords, presentIn, priceIn,
 fn last_price_from(present: u64, price: u64) -> LastPrice
     ensures { λ r. ⌜ r ≡ lastPriceFrom present price ⌝ }
 {
-    if present == 0 {
+    let absent = present == 0;
+    if absent {
         return LastPrice::None;
     }
     LastPrice::At(Price(price))
@@ -44,10 +45,11 @@ pub fn prints_of(w: &[u64; 4]) -> PrintSegment
 pub fn path_known(w: &[u64; 4]) -> bool
     ensures { λ r. ⌜ r ≡ pathKnown (now (w .entry)) ⌝ }
 {
-    if w[0] > 1 {
-        return false;
+    let open = w[0] <= 1;
+    if open {
+        return w[1] <= 1;
     }
-    w[1] <= 1
+    false
 }
 
 // Open, prev present, prev, first.
@@ -82,24 +84,6 @@ pub fn path_words(path: PrintPath) -> [u64; 4]
     ]
 }
 
-fn present_in(price: LastPrice) -> u64
-    ensures { λ r. ⌜ r ≡ presentIn price ⌝ }
-{
-    match price {
-        LastPrice::None => 0,
-        LastPrice::At(_) => 1,
-    }
-}
-
-fn price_in(price: LastPrice) -> u64
-    ensures { λ r. ⌜ r ≡ priceIn price ⌝ }
-{
-    match price {
-        LastPrice::None => 0,
-        LastPrice::At(at) => at.0,
-    }
-}
-
 pub fn segment_words(next: NextSegment) -> [u64; 5]
     ensures { λ r. ⌜ r ≡ segmentWords (toldNext next) ⌝ }
 {
@@ -107,13 +91,10 @@ pub fn segment_words(next: NextSegment) -> [u64; 5]
         NextSegment::None => [0, 0, 0, 0, 0],
         NextSegment::Next(prints) => {
             let prev = prints.prev;
-            [
-                1,
-                present_in(prev),
-                price_in(prev),
-                prints.first.0,
-                prints.last.0,
-            ]
+            match prev {
+                LastPrice::None => [1, 0, 0, prints.first.0, prints.last.0],
+                LastPrice::At(at) => [1, 1, at.0, prints.first.0, prints.last.0],
+            }
         }
     }
 }

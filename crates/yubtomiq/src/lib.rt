@@ -13,8 +13,8 @@ ghost use Rattle.book.specs.Words.{wellFormed};
 ghost use Rattle.book.specs.Entries.{electedWords, movedWords};
 ghost use Rattle.stop_protection.specs.Collar.{tryNew};
 ghost use Rattle.pricelevel.specs.Price.{toPrice};
-ghost use Rattle.both_ways.specs.Ends.{Comparable};
-ghost use Rattle.yubtomiq.specs.BothWays.{endsByWords, wayWords, DecidedWords};
+ghost use Rattle.both_ways.specs.Ends.{Comparable, Decided};
+ghost use Rattle.yubtomiq.specs.BothWays.{endsByWords, wayWords};
 ghost use Rattle.host_words.specs.Answers.{Told, number, flag, seqWords, idWords, termsWords, stopWords, segmentWords, foundWords, totalsWords, countsWords, passWords, previewWords, limitWords};
 ghost use Rattle.host_words.specs.ByWords.{admitByWords, clearByWords, cancelByWords, updateByWords, findByWords, recordByWords, takeByWords, resetByWords, segmentByWords, walkByWords, passByWords, runByWords, trailedByWords, electedByWords, inconsistencyByWords, previewByWords, limitByWords, checkOf, childByWords};
 
@@ -290,13 +290,13 @@ pub extern "C" fn yubtomiq_evaluate_both_ways(
     listed: &mut [ElectedWords],
     answer: &mut [u64; 6],
 )
-    ensures { λ _. ⌜ (Comparable (map toPrice (now (prices .entry))) (now (ends .entry)) (now (run .entry)) (length (now (elected .entry)))
-        (length (now (moved .entry))) (length (now (listed .entry)))
-        → DecidedWords (now (answer .exit)) (now (ends .exit)) (now (run .exit)) (now (elected .exit)) (now (listed .exit))) ⌝ }
     ensures { λ _. ⌜ (let o = endsByWords (now (settings .entry)) (now (prev .entry)) (now (prices .entry)) (now (ends .entry)) (length (now (elected .entry)))
         (length (now (moved .entry))) in
         let p = walkByWords (now (settings .entry)) (now (prev .entry)) (now (prices .entry)) (now (run .entry)) (length (now (listed .entry))) in
-        (now (answer .exit) ≡ wayWords (o .answer) ++ wayWords (p .answer))
+        (Comparable (map toPrice (now (prices .entry))) (now (ends .entry)) (now (run .entry)) (length (now (elected .entry)))
+        (length (now (moved .entry))) (length (now (listed .entry)))
+        → Decided (o .answer) (p .answer) (now (ends .exit)) (now (run .exit)) (now (elected .exit)) (now (listed .exit)))
+        × (now (answer .exit) ≡ wayWords (o .answer) ++ wayWords (p .answer))
         × (now (ends .exit) ≡ o .words)
         × (now (elected .exit) ≡ written (map electedWords (o .elected)) (now (elected .entry)))
         × (now (moved .exit) ≡ written (map movedWords (o .moved)) (now (moved .entry)))

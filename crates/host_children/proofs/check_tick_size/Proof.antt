@@ -1,29 +1,30 @@
 -- `host_children::check_tick_size` meets its contract.
-use mathlib.Core.Path.{ap, sym, _∙_}
 use borrow.Author.Needs.{needs}
-use Rattle.stop_protection.specs.Collar.{toldNew}
+use Rattle.stop_protection.specs.Collar.{toldCheck, toldNew}
 use Rattle.host_words.specs.Answers.{number}
-use Rattle.host_words.specs.ByWords.{checkOf}
 use Rattle.host_children.proofs.check_tick_size.Statement.{statement}
 use Rattle.host_children.proofs.check_tick_size.Tie as tie
 
 returns : tie.Need-returns
-unfolding checkOf toldNew
+unfolding number toldCheck toldNew
 returns c =
-    let a = c .before in
-    let m = a .before .before in
-    let t = m .before .before in
-    rw (sym (t .try-new .ensures) ∙ ap toldNew (m .made .given .1))
-    (c .of-check .ensures ∙ ap number (a .check-tick-size .ensures))
+    let k = c .before .before in
+    let m = k .before .before in
+    rw (← m .before .before .try-new .ensures, m .made .given .1, ← k .check-tick-size .ensures)
+    (rw (c .enum-told .given .1))
 
 returns-2 : tie.Need-returns-2
-unfolding checkOf toldNew number
+unfolding number toldCheck toldNew
 returns-2 c =
-    let m = c .before .before in
-    let t = m .before .before in
-    rw (sym (t .try-new .ensures) ∙ ap toldNew (m .made2 .given .1)) (c .number .ensures)
+    let e = c .before .before in
+    let k = e .before .before in
+    let m = k .before .before in
+    rw (← m .before .before .try-new .ensures, m .made .given .1, ← k .check-tick-size .ensures, e .e .given .1)
+    (c .number .ensures)
 
 pub check-tick-size-spec : {M : Type 1} → statement M
+unfolding number toldCheck toldNew
 check-tick-size-spec =
-    tie.close (tie.spec (λ c κs. search needs) (λ c. search needs) (λ c κs. search needs) (λ c κs. search needs)
-    (λ c. search needs) (λ c κs. search needs) returns returns-2)
+    tie.close (tie.spec (λ c κs. search needs) (λ c. search needs) (λ c κs. search needs) (λ c. search needs)
+    (λ c. search needs) (λ c κs. search needs) (λ c. search needs) (λ c κs. search needs) returns returns-2
+    (λ c. rw (← c .before .before .before .before .try-new .ensures, c .before .before .made2 .given .1) (c .number2 .ensures)))

@@ -1,28 +1,22 @@
 -- `host_path::reset_path` meets its contract.
-use mathlib.Core.Path.{ap, refl, sym, _∙_}
+use mathlib.Core.Path.{refl}
 use borrow.Author.Needs.{needs}
-use borrow.Author.Tests.{not-false, not-true}
-use Rattle.host_words.specs.Answers.{number, pathWords}
-use Rattle.host_words.specs.ByWords.{onPath, resetByWords}
+use Rattle.host_words.proofs.Known.{is-known, is-unknown}
+use Rattle.host_words.specs.Answers.{number}
 use Rattle.host_path.proofs.reset_path.Statement.{statement}
 use Rattle.host_path.proofs.reset_path.Tie as tie
 
-returns : tie.Need-returns
-unfolding resetByWords onPath number
-returns c = rw (sym (c .before .path-known .ensures) ∙ not-true _ (c .if1 .taken)) (refl, refl)
-
 returns-2 : tie.Need-returns-2
-unfolding resetByWords onPath number
+unfolding number
 returns-2 c =
     let a = c .before in
     let p = a .before in
-    let i = p .before .before in
-    let b = i .before in
-    let known = sym (b .path-known .ensures) ∙ not-false _ (i .if1 .left) in
-    rw (known, ← p .path-of .ensures)
-    (refl, c .path-words .ensures ∙ ap pathWords (a .closed .ensures))
+    let known = is-known (p .before .before .before .path-known .ensures) (p .before .before .if1 .left) in
+    rw (known, ← p .path-of .ensures, ← a .closed .ensures) (refl, c .path-words .ensures)
 
 pub reset-path-spec : {M : Type 1} → statement M
+unfolding number
 reset-path-spec =
-    tie.close (tie.spec (λ c κs. search needs) returns (λ c κs. search needs) (λ c κs. search needs)
-    (λ c κs. search needs) returns-2)
+    tie.close (tie.spec (λ c κs. search needs)
+    (λ c. rw (is-unknown (c .before .path-known .ensures) (c .if1 .taken)) (refl, refl)) (λ c κs. search needs)
+    (λ c κs. search needs) (λ c κs. search needs) returns-2)

@@ -1,15 +1,12 @@
 -- `host_store::layout_store` meets its contract.
-use mathlib.Core.Path.{ap, _∙_}
 use borrow.Author.Needs.{needs}
-use Rattle.host_words.specs.Answers.{number}
 use Rattle.host_store.proofs.layout_store.Statement.{statement}
 use Rattle.host_store.proofs.layout_store.Tie as tie
 
 returns : tie.Need-returns
 returns c =
     let l = c .before .before .before in
-    (c .of-layout .ensures ∙ ap number (l .layout-store .ensures .0), l .layout-store .ensures .1)
+    rw (← l .layout-store .ensures .0) (c .of-layout .ensures, l .layout-store .ensures .1)
 
 pub layout-store-spec : {M : Type 1} → statement M
-layout-store-spec =
-    tie.close (tie.spec (λ c κs. search needs) (λ c κs. search needs) (λ c. search needs) returns)
+layout-store-spec = tie.close (tie.spec (λ c κs. search needs) (λ c κs. search needs) (λ c. search needs) returns)

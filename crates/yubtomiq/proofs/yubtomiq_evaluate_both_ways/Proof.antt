@@ -1,6 +1,11 @@
 -- `yubtomiq::yubtomiq_evaluate_both_ways` meets its contract: demand 3, from the contracts of both calls.
+use mathlib.Core.List.{map}
+use mathlib.Core.Path.{refl}
 use borrow.Author.Needs.{needs}
-use Rattle.yubtomiq.proofs.BothWays.{both-told, decided-words}
+use Rattle.both_ways.proofs.EndsAndRun.{decided}
+use Rattle.host_words.specs.Arguments.{lastPriceOf, settingsOf}
+use Rattle.pricelevel.specs.Price.{toPrice}
+use Rattle.yubtomiq.proofs.BothWays.{both-told}
 use Rattle.yubtomiq.proofs.yubtomiq_evaluate_both_ways.Statement.{statement}
 use Rattle.yubtomiq.proofs.yubtomiq_evaluate_both_ways.Tie as tie
 
@@ -11,11 +16,11 @@ returns c =
     let g = o .before .before .before .before .before .before .before .before .args in
     let d = o .over-ends .ensures in
     let e = w .yubtomiq-walk .ensures in
-    let words = both-told _ _ _ _ _ _ (d .0) (e .0) in
     let all =
-    decided-words (g .settings .now) (g .prev .now) (g .prices .now) (g .ends .now) (g .run .now) (g .elected .now)
-    (g .moved .now) (g .listed .now) _ _ _ _ _ words (d .1) (d .2) (e .1) (e .2) in
-    (all, (words, d .1, d .2, d .3, e .1, e .2))
+    decided (settingsOf (g .settings .now)) (lastPriceOf (g .prev .now)) (map toPrice (g .prices .now)) (g .ends .now)
+    (g .run .now) (g .elected .now) (g .moved .now) (g .listed .now) _ _ _ _ _ _ refl (d .1) (d .2) refl (e .1)
+    (e .2) in
+    (all, both-told _ _ _ _ _ _ (d .0) (e .0), d .1, d .2, d .3, e .1, e .2)
 
 pub yubtomiq-evaluate-both-ways-spec : {M : Type 1} → statement M
 yubtomiq-evaluate-both-ways-spec =

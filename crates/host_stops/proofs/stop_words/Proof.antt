@@ -1,0 +1,10 @@
+-- `host_stops::stop_words` meets its contract.
+use borrow.Author.Needs.{needs}
+use Rattle.host_stops.proofs.stop_words.Statement.{statement}
+use Rattle.host_stops.proofs.stop_words.Tie as tie
+
+pub stop-words-spec : {M : Type 1} → statement M
+stop-words-spec =
+    tie.close (tie.spec (λ c κs. search needs) (λ c κs. search needs) (λ c. search needs) (λ c. search needs)
+    (λ c. search needs) (λ c. search needs) (λ c. search needs) (λ c. search needs) (λ c. search needs)
+    (λ c. rw (c .before .id-words .ensures, c .terms-words .ensures)))
