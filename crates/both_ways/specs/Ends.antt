@@ -22,9 +22,9 @@ endsCall s prev [] w elected moved = record { answer = refused 16; words = w; el
 endsCall s prev (p ∷ ps) w elected moved = segmentCall s (record { prev = prev; first = p; last = lastOf p ps }) w elected moved
 
 -- a run that never falls (Sell) or never rises (Buy)
-abbrev pub Goes : Side → List Price → Type 0
-Goes d [] = Unit {0}
-Goes d (p ∷ ps) = Monotone d p ps
+abbrev pub OneWay : Side → List Price → Type 0
+OneWay d [] = Unit {0}
+OneWay d (p ∷ ps) = Monotone d p ps
 
 -- what both ways must agree in: all of an elected entry's words but the eighth, the trigger price
 unfoldable pub alikeWords : List ℕ → List ℕ
@@ -36,7 +36,7 @@ pub record Comparable (prices : List Price) (ends run : List ℕ) (elected moved
   pub equal : ends ≡ run
   pub formed : wellFormed ends ≡ true
   pub direction : Side
-  pub goes : Goes direction prices
+  pub goes : OneWay direction prices
   pub some : 1 ≤ length prices
   pub few : length prices ≤ mostPrices
   pub elected-room : pendingIn ends ≤ elected
