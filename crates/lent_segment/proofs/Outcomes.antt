@@ -19,10 +19,10 @@ use Rattle.walks.proofs.Constants.{mostMoves}
 use Rattle.walks.proofs.WordCalls.{Left, Lists}
 use Rattle.word_rooms.proofs.Listings.{elected, moved, elects, shifts}
 
-abbrev ofElected : SegmentOutcome → Left (Answer Counts) Elected (List ℕ)
+abbrev pub ofElected : SegmentOutcome → Left (Answer Counts) Elected (List ℕ)
 ofElected o = record { told = o .answer; words = o .words; entries = o .elected; others = map movedWords (o .moved) }
 
-abbrev ofMoved : SegmentOutcome → Left (Answer Counts) Moved Elected
+abbrev pub ofMoved : SegmentOutcome → Left (Answer Counts) Moved Elected
 ofMoved o = record { told = o .answer; words = o .words; entries = o .moved; others = o .elected }
 
 module _ (settings : Settings) (prints : PrintSegment) (w : List ℕ) where
@@ -43,16 +43,10 @@ module _ (settings : Settings) (prints : PrintSegment) (w : List ℕ) where
       ∙ segment-cut settings prints w e m
 
   -- n is the room of the other list
-  abbrev pub electing : ℕ → ℕ → Left (Answer Counts) Elected (List ℕ)
-  electing n room = ofElected (call room n)
+  pub electing : (n : ℕ) → Lists elected electedCount (λ room. ofElected (call room n))
+  electing n = elects electedCount ofElected (λ room. call room n) (λ room. segment-lists settings prints w room n .0)
+      (λ room. cut-elected room n)
 
-  abbrev pub moving : ℕ → ℕ → Left (Answer Counts) Moved Elected
-  moving n room = ofMoved (call n room)
-
-  pub electing-lists : (n : ℕ) → Lists elected electedCount (electing n)
-  electing-lists n = elects electedCount (electing n) (λ room. segment-lists settings prints w room n .0)
-      (λ room. ap (λ (o : SegmentOutcome). ofElected o) (cut-elected room n))
-
-  pub moving-lists : (n : ℕ) → Lists moved movedCount (moving n)
-  moving-lists n = shifts movedCount (moving n) (λ room. segment-lists settings prints w n room .1)
-      (λ room. ap (λ (o : SegmentOutcome). ofMoved o) (cut-moved n room))
+  pub moving : (n : ℕ) → Lists moved movedCount (λ room. ofMoved (call n room))
+  moving n = shifts movedCount ofMoved (λ room. call n room) (λ room. segment-lists settings prints w n room .1)
+      (λ room. cut-moved n room)

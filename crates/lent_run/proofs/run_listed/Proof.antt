@@ -1,12 +1,14 @@
 -- `run_listed` meets its contract: its code is that of an evaluation with a lent list, over `run_words`.
+use Rattle.book.specs.Calls.{runCall}
+use Rattle.evaluation.proofs.Rooms.{run-lists, run-cut}
 use Rattle.lent_run.specs.Runs.{toldRun}
-use Rattle.lent_run.proofs.Outcome.{shape, ran, runCount, run-lists}
+use Rattle.lent_run.proofs.Outcome.{ofRun, shape, ran, runCount}
 use Rattle.lent_run.proofs.Types.{StopRunOf}
 use Rattle.walks.proofs.Contracts.{Known}
 use Rattle.walks.proofs.ListCalls.{Counts, proved}
 use Rattle.walks.proofs.WordCalls.{Evaluates}
 use Rattle.word_rooms.proofs.Callees.{least}
-use Rattle.word_rooms.proofs.Listings.{elected}
+use Rattle.word_rooms.proofs.Listings.{elected, elects}
 use Rattle.lent_lists.proofs.Callees.{fill-elected}
 use Rattle.lent_run.proofs.run_words as core
 use Rattle.lent_run.proofs.run_count as count
@@ -21,6 +23,9 @@ run-count = record { name = count.Symbol.name; routine = count.Symbol.routine; m
 pub run-listed-spec : {M : Type 1} → f.Statement.statement M
 unfolding f.Code.routine
 run-listed-spec 𝓤 H 𝓜 𝓖 𝓡 =
-    proved elected StopRunOf toldRun runCount shape ran run-lists least callee run-count fill-elected
+    proved elected StopRunOf toldRun runCount shape ran (λ κ settings script start w.
+    elects runCount ofRun (λ room. runCall settings (script .now) (start .trade) w room (start .path))
+    (run-lists settings (script .now) (start .trade) w (start .path))
+    (run-cut settings (script .now) (start .trade) w (start .path))) least callee run-count fill-elected
     𝓤 H 𝓜 𝓖 𝓡 f.Code.env f.Key.name (f.Code.unfolded 𝓤 H 𝓜 𝓡) f.Code.calls-word-rooms·least
     f.Code.calls-lent-run·run-words f.Code.calls-lent-run·run-count f.Code.calls-lent-lists·fill-elected
