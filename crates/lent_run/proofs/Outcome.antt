@@ -1,6 +1,5 @@
 -- A run by value as a call that lists the elected, and tells its answer and the path after it.
-use mathlib.Core.List.{[]}
-use Prim.Native.Nat.{ℕ}
+use Rattle.walks.proofs.WalkSteps.{[], ℕ}
 use Rattle.error.specs.Answer.{Answer}
 use Rattle.book.specs.Calls.{RunOutcome, runCall}
 use Rattle.book.specs.declared.Elected.{Elected}

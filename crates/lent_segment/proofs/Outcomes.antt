@@ -1,8 +1,6 @@
 -- A segment as a call that lists the elected, with the words of the moved as those of another list, and as one that
 -- lists the moved, with the elected as the other list.
-use mathlib.Core.Path.{_≡_, sym, ap, _∙_}
-use mathlib.Core.List.{List, map}
-use Prim.Native.Nat.{ℕ, min}
+use Rattle.walks.proofs.WalkSteps.{_≡_, sym, ap, _∙_, List, map, ℕ, min}
 use native.Mathlib.Omega.{arith}
 use Rattle.error.specs.Answer.{Answer}
 use Rattle.book.specs.Calls.{segmentCall, SegmentOutcome}

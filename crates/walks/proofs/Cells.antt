@@ -1,18 +1,16 @@
 -- The locals of a function that is walked, one item each, in their order behind what else is had: a local is read, set,
 -- taken out and put back by its position; they are allocated where the function is entered, and freed where it returns.
-use mathlib.Core.Path.{_≡_, refl, sym, subst}
-use Prim.Native.Nat.{ℕ, _+_, _<_, _^_}
-use mathlib.Core.List.{[], List, _∷_, _++_}
 use lib.Dec.{T as Holds}
-use lib.ListN.{getD, take, drop, take-append-drop}
+use lib.ListN.{drop, take-append-drop}
 use mathlib.Core.Option.{some}
-use mir.Syntax.{place, Sym, Tys, tyStruct}
+use mir.Syntax.{Sym, Tys, tyStruct}
 use mir.Val.{Vals, vstruct}
 use mir.Fields.{getV}
 use prog.Memory.{fieldAt}
 use types.Run.{Walks}
 use types.Kit.{allocs, passes, params′, del, pull, fill, push, pop, ⊢++, ++⊢, assume, each}
-use Rattle.walks.proofs.WalkSteps.{Fits as Small, Opd, URA, fullShare, Ty, Local, Fn, Body, local, copy}
+use Rattle.walks.proofs.WalkSteps.{_≡_, refl, sym, subst, ℕ, _+_, _<_, _^_, [], List, _∷_, _++_, getD, take}
+use Rattle.walks.proofs.WalkSteps.{place, Fits as Small, Opd, URA, fullShare, Ty, Local, Fn, Body, local, copy}
 use Rattle.walks.proofs.WalkSteps.{return, Val, hasTy, WT, SProp, ent, sep, wand, emp, id⊢, via, comm∗, assoc∗}
 use Rattle.walks.proofs.WalkSteps.{assoc′, monoL, monoR, guardI, snd∗, Share, fat, froom, fdies, Heap, Env}
 use Rattle.walks.proofs.WalkSteps.{Calls, Loops, WpFn, release, noLocal, spotOf, Atoms, Given, Item, Goal, Seq}
@@ -20,7 +18,7 @@ use Rattle.walks.proofs.WalkSteps.{Step, step, prop, runs, atRet, ‵, 
 use Rattle.walks.proofs.WalkSteps.{qed, by, move, use0, use1, use2, split, join, frame, done, Reads, Writes}
 use Rattle.walks.proofs.WalkSteps.{stop, from, load, returns, enter, alloc1, alloc0, params1, pass1, pass0}
 use Rattle.walks.proofs.WalkSteps.{Part, look-in, w64, Denots, Operand, Opds, and-then, Finds, PStep, Spot}
-use Rattle.walks.proofs.WalkSteps.{field, fld, sub, tcons, tnil, vcons, vnil}
+use Rattle.walks.proofs.WalkSteps.{field, fld, sub, tcons, tnil, vcons, vnil, valueLocal}
 use Rattle.walks.proofs.Params.{taken, Held}
 use Rattle.walks.proofs.Plain.{Plain}
 
@@ -169,6 +167,10 @@ module _ {M : Type 1} {𝓤 : URA M} {H : Heap 𝓤} {A : Atoms 𝓤} {K : Type 
         (via 𝓤 _ (fill 𝓤 H A n (i ⊛ j) Γ) (s .prf))))))
 
 -- ---- entry
+abbrev pub by-value : List Ty → List Local
+by-value [] = []
+by-value (τ ∷ τs) = local τ valueLocal ∷ by-value τs
+
 -- a block for each local
 abbrev pub Blocks : List Local → Type 0
 Blocks [] = Unit {0}

@@ -1,20 +1,18 @@
 -- A function on parameters of known kinds, with a plain answer and clauses that are facts: its contract, as a caller's
 -- proof cites it, a call of it, and that it meets its contract where a walk of its code goes from entry to exit. A walk
 -- has the tokens and what is handed on one by one, and nothing of plain values.
-use mathlib.Core.Path.{_≡_, sym, subst}
-use Prim.Native.Nat.{ℕ, zero, suc}
-use mathlib.Core.List.{[], List, _∷_, _++_}
 use base.Logic.{mono∗}
 use contract.Running.{tablesOf}
 use contract.Monad.{fact}
-use types.Kit.{push, pop, ⊢++, ++⊢, show, updating, now as at-once}
+use types.Kit.{push, pop, ⊢++, ++⊢, show, updating}
 use denote.Steps.{heard, said}
 use denote.Triple.End.{Fins, lastsOf}
 use denote.Triple.Spec.{Back}
 use denote.Triple.Clauses.{ensured}
-use Rattle.walks.proofs.WalkSteps.{URA, Name, Fn, Operand, Place, Body, seq, call, Val, SProp, ent, sep, emp}
-use Rattle.walks.proofs.WalkSteps.{via, id⊢, emp∗, snd∗, monoR, Fml, flft, Model, Routine, RoutineEnv, Heap}
-use Rattle.walks.proofs.WalkSteps.{Env, Calls, Loops, WpFn, Closed, Tables, Atoms, sem, Lfts, Shares, toks}
+use Rattle.walks.proofs.WalkSteps.{_≡_, sym, subst, ℕ, zero, suc, [], List, _∷_, _++_, now as at-once, URA}
+use Rattle.walks.proofs.WalkSteps.{Name, Fn, Operand, Place, Body, seq, call, Val, SProp, ent, sep, emp, via}
+use Rattle.walks.proofs.WalkSteps.{id⊢, emp∗, snd∗, monoR, Fml, flft, Model, Routine, RoutineEnv, Heap, Env}
+use Rattle.walks.proofs.WalkSteps.{Calls, Loops, WpFn, Closed, Tables, Atoms, sem, Lfts, Shares, toks}
 use Rattle.walks.proofs.WalkSteps.{GhostRules, Running, givenOf, tables, Given, Item, Goal, Post as Next, Seq}
 use Rattle.walks.proofs.WalkSteps.{Sq, Step, step, prop, runs, lands, ‵, raw, _⊛_, some, later, ⋆, _$_, _∵_, ! }
 use Rattle.walks.proofs.WalkSteps.{qed, by, move, drop, use1, use2, split, join, frame, pick, await, done}
@@ -200,13 +198,6 @@ module _ (F : Form) where
         by ! (via 𝓤 _ (⊢++ 𝓤 H A (tokens 𝓤 n κs qs) (owned 𝓤 κs (F .params) a))
         (mono∗ 𝓤 (to-toks 𝓤 H A W n κs qs) (to-owns 𝓤 H A W κs (F .params) a are)))
 
-  -- a plain answer lands as its value
-  lands-as : {M : Type 1} {𝓤 : URA M} {H : Heap 𝓤} {A : Atoms 𝓤} {K : Type 0} {W : Given 𝓤 H A} {Γ : List (Item 𝓤)}
-      {C : Calls 𝓤 H} {Λ : Loops 𝓤 H} {E : Env 𝓤 H} {q : Next 𝓤 H} {d : Place} {rest : Body} → K → (r : P .row .Denot)
-      (w : Val) → Is (P .row) r (w ∷ []) → Step K W Γ (lands C Λ E d (P .val r) rest q) Γ (lands C Λ E d w rest q)
-  lands-as {K = K} {W = W} {Γ} {C} {Λ} {E} {q} {d} {rest} t r w is = step
-      (λ s. subst (λ (v : Val). Seq K W Γ (lands C Λ E d v rest q)) (sym (valued P r w is)) s)
-
   -- a call
   pub calls : {M : Type 1} {𝓤 : URA M} {H : Heap 𝓤} {A : Atoms 𝓤} {K : Type 0} {W : Given 𝓤 H A} {Γ : List (Item 𝓤)}
       {C : Calls 𝓤 H} {Λ : Loops 𝓤 H} {E : Env 𝓤 H} {q : Next 𝓤 H} {f : Name} {xs : List Operand} {d : Place}
@@ -217,7 +208,7 @@ module _ (F : Form) where
       → ((r : P .row .Denot) (ws : Lasts signed κs a) → Stands P r → All (F .tells κs a r (atExit signed κs a ws))
       → Seq K W (After 𝓤 κs qs a ws ++ Γ) (lands C Λ E d (P .val r) rest q))
       → Seq K W (Before 𝓤 κs qs a ++ Γ) (runs C Λ E (seq (call f xs d) rest) q)
-  calls {𝓤 = 𝓤} {H} {A} {W = W} t fm known κs qs a are ok opds go =
+  calls {𝓤 = 𝓤} {H} {A} {K} {W} {Γ} {C} {Λ} {E} {q} {d = d} {rest} t fm known κs qs a are ok opds go =
       gathers t (Before 𝓤 κs qs a) $ use1 W (raw (Asked 𝓤 H A κs qs a)) (asked 𝓤 H A κs qs a W are ok) $
       calls-at t fm (Keeps _ 𝓤 H A) known (with 𝓤 H A κs qs a) opds (λ w.
       use1 W (later (some (λ (r : P .row .Denot). (raw (toks 𝓤 A n κs qs) ⊛ ‵ (P .row .own r (w ∷ []))) ⊛ some
@@ -228,7 +219,8 @@ module _ (F : Form) where
       peeks t (P .row) (Is (P .row)) (shows 𝓤 H A (P .row)) r (w ∷ []) (λ is. drop t $
       use2 W (raw (⋆ 𝓤 H A (After 𝓤 κs qs a ws))) (via 𝓤 _ (mono∗ 𝓤 (of-toks 𝓤 H A W n κs qs)
       (of-lasts 𝓤 H A W κs (F .params) a ws)) (++⊢ 𝓤 H A (tokens 𝓤 n κs qs) (gone 𝓤 κs (F .params) a ws))) $
-      spreads t (After 𝓤 κs qs a ws) $ lands-as t r w is $ go r ws (stands P r w is) e)))))
+      spreads t (After 𝓤 κs qs a ws) $ subst (λ (v : Val). Seq K W (After 𝓤 κs qs a ws ++ Γ) (lands C Λ E d v rest q))
+      (sym (valued P r w is)) (go r ws (stands P r w is) e))))))
 
 -- a function with such a contract, which it meets
 pub record Known (F : Form) : Type 3 where

@@ -1,14 +1,10 @@
 -- Statements of a walked function whose locals stand behind g items, each local by its number: a lent slice is lent
 -- again, and a local array is lent as a slice.
-use mathlib.Core.Path.{_≡_, refl}
-use Prim.Native.Nat.{ℕ, suc, _+_}
-use mathlib.Core.List.{[], List, _∷_}
-use lib.ListN.{getD}
-use mir.Syntax.{place}
-use Rattle.walks.proofs.WalkSteps.{Opd, URA, Ty, Operand, Body, w64, field, deref, copy, addrOf, aggregate}
-use Rattle.walks.proofs.WalkSteps.{assign, seq, vptr, vint, Heap, Env, Calls, Loops, noLocal, Atoms, Given}
-use Rattle.walks.proofs.WalkSteps.{Item, Post, Step, step, runs, nth, put, _$_, stop, hop, fld, from, addr}
-use Rattle.walks.proofs.WalkSteps.{and-then, no-more, assigns, agg, sliceTy, sliceVal}
+use Rattle.walks.proofs.WalkSteps.{_≡_, refl, ℕ, suc, _+_, [], List, _∷_, getD, place, Opd, URA, Ty, Operand}
+use Rattle.walks.proofs.WalkSteps.{Body, w64, field, deref, copy, addrOf, aggregate, assign, seq, vptr, vint}
+use Rattle.walks.proofs.WalkSteps.{Heap, Env, Calls, Loops, noLocal, Atoms, Given, Item, Post, Step, step}
+use Rattle.walks.proofs.WalkSteps.{runs, nth, put, _$_, stop, hop, fld, from, addr, and-then, no-more, assigns}
+use Rattle.walks.proofs.WalkSteps.{agg, sliceTy, sliceVal}
 use Rattle.walks.proofs.Cells.{in-field, second-of, within, room, full, Typed, cell, cellAt, reads, sets}
 
 module _ {M : Type 1} {𝓤 : URA M} {H : Heap 𝓤} {A : Atoms 𝓤} {K : Type 0} {W : Given 𝓤 H A} {Γ : List (Item 𝓤)}

@@ -2,21 +2,17 @@
 -- far as the list has room, is lent to that one, with what is handed on to it, and then, to be read, with the list to
 -- one that fills it. The signature, the contract and the code of such a function, and that the code meets the contract
 -- where the callees meet theirs.
-use mathlib.Core.Path.{_≡_, refl, sym, ap, subst, _∙_}
-use Prim.Native.Nat.{ℕ, _≤_, min}
 use native.Mathlib.Omega.{arith}
-use mathlib.Core.List.{[], _∷_, _++_, List, map}
-use lib.ListN.{length, take, drop as without, length-take}
 use lib.Seq.{length-front}
-use mir.Syntax.{place}
-use Rattle.walks.proofs.WalkSteps.{Lfts, Shares, URA, fullShare, Name, Fn, Body, named, w64, tyInt, tyArray}
-use Rattle.walks.proofs.WalkSteps.{field, copy, int, rvOpd, repeat, assign, seq, return, call, Val, vint}
-use Rattle.walks.proofs.WalkSteps.{SProp, ent, Lft, Share, Fml, froom, flft, Model, RoutineEnv, Heap, Env}
-use Rattle.walks.proofs.WalkSteps.{Calls, Loops, WpFn, Closed, Atoms, GhostRules, Running, givenOf, tables}
-use Rattle.walks.proofs.WalkSteps.{Given, Sq, runs, atRet, ‵, ⋆, _$_, _∵_, !, qed, by, move, drop, use1, use2}
-use Rattle.walks.proofs.WalkSteps.{and-then, no-more, assigns, land, from, stop, of-opd, lit, rep, store-in}
-use Rattle.walks.proofs.WalkSteps.{FmC, fmOf, Is, u64, RefT, sliceVal, MutSlice, Room, yes, Seen, see, Triple}
-use Rattle.walks.proofs.WalkSteps.{row, rewrite, prop, Denots, left}
+use Rattle.walks.proofs.WalkSteps.{_≡_, refl, sym, ap, subst, _∙_, ℕ, _≤_, min, [], _∷_, _++_, List, map}
+use Rattle.walks.proofs.WalkSteps.{length, take, without, length-take, place, Lfts, Shares, URA, fullShare}
+use Rattle.walks.proofs.WalkSteps.{Name, Fn, Body, named, w64, tyInt, tyArray, field, copy, int, rvOpd, repeat}
+use Rattle.walks.proofs.WalkSteps.{assign, seq, return, call, Val, vint, SProp, ent, Lft, Share, Fml, froom}
+use Rattle.walks.proofs.WalkSteps.{flft, Model, RoutineEnv, Heap, Env, Calls, Loops, WpFn, Closed, Atoms}
+use Rattle.walks.proofs.WalkSteps.{GhostRules, Running, givenOf, tables, Given, Sq, runs, atRet, ‵, ⋆, _$_}
+use Rattle.walks.proofs.WalkSteps.{_∵_, !, qed, by, move, drop, use1, use2, and-then, no-more, assigns, land}
+use Rattle.walks.proofs.WalkSteps.{from, stop, of-opd, lit, rep, store-in, FmC, fmOf, Is, u64, RefT, sliceVal}
+use Rattle.walks.proofs.WalkSteps.{MutSlice, Room, yes, Seen, see, Triple, row, rewrite, prop, Denots, left}
 use Rattle.book.specs.Calls.{written}
 use Rattle.book.specs.declared.Settings.{Settings}
 use Rattle.walks.proofs.Buffers.{Entry, slot, blank-length, blankVal, zeros, zeroed, to-row, row-room}

@@ -1,26 +1,22 @@
 -- An evaluation that takes words in the place of a list of records: of a store, settings, two parameters that are
 -- handed on to it, and the words. Its contract, and its call by a function that lends it the first entries of a local
 -- array and hands on what it was itself lent.
-use mathlib.Core.Path.{_≡_, refl, sym, _∙_}
-use Prim.Native.Nat.{ℕ, suc, _≤_, _<_, _^_, min}
 use native.Mathlib.Omega.{arith}
-use mathlib.Core.List.{[], _∷_, _++_, List, map}
-use lib.ListN.{length, take, drop as without, length-take}
-use mir.Syntax.{place}
-use Rattle.walks.proofs.WalkSteps.{Lfts, Shares, Outs, URA, fullShare, Name, Ty, Local, Place, Body, Operand}
-use Rattle.walks.proofs.WalkSteps.{named, erased, mut, imm, w64, tyInt, tyUnit, tyRef, tyArray, local}
-use Rattle.walks.proofs.WalkSteps.{valueLocal, memorySlot, field, deref, copy, addrOf, aggregate, assign, seq}
-use Rattle.walks.proofs.WalkSteps.{call, Val, vint, Lft, Share, GName, flft, Heap, Env, Calls, Loops, Atoms}
-use Rattle.walks.proofs.WalkSteps.{Given, Item, Post, Go, Sq, runs, lands, ‵, raw, _$_, !, move, fsplit, feqL}
-use Rattle.walks.proofs.WalkSteps.{Opds, no-more, land, from, stop, FmC, RattleType, pointee, Is, Tells, u64}
-use Rattle.walks.proofs.WalkSteps.{RefT, sliceTy, sliceVal, MutSlice, ShrSlice, Room, mut-slice-tells}
-use Rattle.walks.proofs.WalkSteps.{shr-slice-tells, row, yes, Seen, Last, left, see, plain, Triple, rewrite}
-use Rattle.walks.proofs.WalkSteps.{Denots, flat, typesAt}
+use Rattle.walks.proofs.WalkSteps.{_≡_, refl, sym, _∙_, ℕ, suc, _≤_, _<_, _^_, min, [], _∷_, _++_, List, map}
+use Rattle.walks.proofs.WalkSteps.{length, take, without, length-take, place, Lfts, Shares, Outs, URA}
+use Rattle.walks.proofs.WalkSteps.{fullShare, Name, Ty, Local, Place, Body, Operand, named, erased, mut, imm}
+use Rattle.walks.proofs.WalkSteps.{w64, tyInt, tyUnit, tyRef, tyArray, local, memorySlot, field, deref, copy}
+use Rattle.walks.proofs.WalkSteps.{addrOf, aggregate, assign, seq, call, Val, vint, Lft, Share, GName, flft}
+use Rattle.walks.proofs.WalkSteps.{Heap, Env, Calls, Loops, Atoms, Given, Item, Post, Go, Sq, runs, lands, ‵}
+use Rattle.walks.proofs.WalkSteps.{raw, _$_, !, move, fsplit, feqL, Opds, no-more, land, from, stop, FmC}
+use Rattle.walks.proofs.WalkSteps.{RattleType, pointee, Is, Tells, u64, RefT, sliceTy, sliceVal, MutSlice}
+use Rattle.walks.proofs.WalkSteps.{ShrSlice, Room, mut-slice-tells, shr-slice-tells, row, yes, Seen, Last}
+use Rattle.walks.proofs.WalkSteps.{left, see, plain, Triple, rewrite, Denots, flat, typesAt}
 use Rattle.book.specs.Calls.{written}
 use Rattle.book.specs.declared.Settings.{Settings}
 use Rattle.walks.proofs.Buffers.{Entry, slot, Kept, blank, blank-length, room-below, lends-part, part-back}
-use Rattle.walks.proofs.Cells.{copied, Cell, room as empty, full, away, sliced, Typed, Blocks, envOf, cells}
-use Rattle.walks.proofs.Cells.{cellAt, reads, sets}
+use Rattle.walks.proofs.Cells.{by-value, copied, Cell, room as empty, full, away, sliced, Typed, Blocks, envOf}
+use Rattle.walks.proofs.Cells.{cells, cellAt, reads, sets}
 use Rattle.walks.proofs.Claims.{All}
 use Rattle.walks.proofs.Constants.{Most}
 use Rattle.walks.proofs.Contracts.{Form, Keeps, Asked, rows, spelt, calls}
@@ -182,28 +178,12 @@ module _ (L : Listing) (P : Plain) where
 
   -- the locals of the function that lends the array, which is the sixth
   abbrev pub locals : Shape → List Local
-  locals sh = local (P .mir) valueLocal
-      ∷ local (sliceTy (tyRef (named 0) mut (tyInt w64))) valueLocal
-      ∷ local (SettingsOf .mir) valueLocal
-      ∷ local (third sh .mir) valueLocal
-      ∷ local (fourth sh .mir) valueLocal
-      ∷ local (sliceTy (tyRef (named 2) mut record′)) valueLocal
-      ∷ local (tyArray words m) memorySlot
-      ∷ local (tyInt w64) valueLocal
-      ∷ local (P .mir) valueLocal
-      ∷ local words valueLocal
-      ∷ local (tyInt w64) valueLocal
-      ∷ local (tyRef erased mut (tyInt w64)) valueLocal
-      ∷ local (sliceTy (tyRef erased mut (tyInt w64))) valueLocal
-      ∷ local (lent₁ sh .0) valueLocal
-      ∷ local (lent₁ sh .1) valueLocal
-      ∷ local (lent₂ sh .0) valueLocal
-      ∷ local (lent₂ sh .1) valueLocal
-      ∷ local tyUnit valueLocal
-      ∷ local (tyRef erased mut record′) valueLocal
-      ∷ local (sliceTy (tyRef erased mut record′)) valueLocal
-      ∷ local (tyRef erased imm (tyArray words m)) valueLocal
-      ∷ local (sliceTy (tyRef erased imm words)) valueLocal ∷ []
+  locals sh = by-value (P .mir ∷ sliceTy (tyRef (named 0) mut (tyInt w64)) ∷ SettingsOf .mir ∷ third sh .mir
+      ∷ fourth sh .mir ∷ sliceTy (tyRef (named 2) mut record′) ∷ [])
+      ++ local (tyArray words m) memorySlot ∷ by-value (tyInt w64 ∷ P .mir ∷ words ∷ tyInt w64
+      ∷ tyRef erased mut (tyInt w64) ∷ sliceTy (tyRef erased mut (tyInt w64)) ∷ lent₁ sh .0 ∷ lent₁ sh .1 ∷ lent₂ sh .0
+      ∷ lent₂ sh .1 ∷ tyUnit ∷ tyRef erased mut record′ ∷ sliceTy (tyRef erased mut record′)
+      ∷ tyRef erased imm (tyArray words m) ∷ sliceTy (tyRef erased imm words) ∷ [])
 
   abbrev pub block : (sh : Shape) → Blocks (locals sh) → ℕ
   block sh bs = bs .1 .1 .1 .1 .1 .1 .0

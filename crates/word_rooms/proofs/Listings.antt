@@ -1,8 +1,6 @@
 -- The two lists of records as the laws of lent lists take them, the entries of each read back from their words; and what
 -- is shown of a call that lists them.
-use Prim.Native.Nat.{ℕ, min}
-use mathlib.Core.Path.{_≡_, refl, ap, _∙_}
-use mathlib.Core.List.{List, [], _∷_, map}
+use Rattle.walks.proofs.WalkSteps.{ℕ, min, _≡_, refl, ap, _∙_, List, [], _∷_, map}
 use lib.Dec.{lit<}
 use Rattle.error.specs.Answer.{Answer}
 use Rattle.book.specs.Calls.{ListOutcome}

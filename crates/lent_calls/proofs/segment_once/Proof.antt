@@ -1,14 +1,10 @@
 -- `segment_once`, by a walk of its MIR: the lists are copied to locals, which are lent to the call and come back, and
 -- their copies are printed. The store goes to the call for good.
-use mathlib.Core.Path.{_≡_, sym}
-use Prim.Native.Nat.{ℕ}
-use mathlib.Core.List.{_++_}
 use lib.Dec.{lit<}
-use lib.ListN.{length, take, drop as without}
 use denote.Struct.Laws.{lawful}
-use Rattle.walks.proofs.WalkSteps.{refl, !, List, [], _$_, _∷_, assigns, by, feqL, fmOf, from, fsplit, fullShare}
-use Rattle.walks.proofs.WalkSteps.{givenOf, land, lit, move, named, no-more, of-opd, rewrite, sliceVal, stop, u64}
-use Rattle.walks.proofs.WalkSteps.{unit-lit}
+use Rattle.walks.proofs.WalkSteps.{_≡_, sym, ℕ, _++_, length, take, without, refl, !, List, [], _$_, _∷_, assigns, by}
+use Rattle.walks.proofs.WalkSteps.{feqL, fmOf, from, fsplit, fullShare, givenOf, land, lit, move, named, no-more}
+use Rattle.walks.proofs.WalkSteps.{of-opd, rewrite, sliceVal, stop, u64, unit-lit}
 use Rattle.book.specs.Answers.{toldCounts}
 use Rattle.book.specs.Calls.{written, segmentCall, SegmentOutcome}
 use Rattle.book.specs.declared.Elected.{Elected}

@@ -1,9 +1,7 @@
 -- `run_stop_triggers` meets its contract: the run by value is called with the path, and the path that it answers is
 -- stored; store, script and list go to it for good.
-use lib.ListN.{length}
-use mathlib.Core.Path.{_≡_, ap}
-use Rattle.walks.proofs.WalkSteps.{refl, !, [], _$_, _∷_, agg, assigns, by, fmOf, from, givenOf, hop, land, load}
-use Rattle.walks.proofs.WalkSteps.{look-raw, move, named, no-more, of-opd, stop, store-raw, u64}
+use Rattle.walks.proofs.WalkSteps.{length, _≡_, ap, refl, !, [], _$_, _∷_, agg, assigns, by, fmOf, from, givenOf, hop}
+use Rattle.walks.proofs.WalkSteps.{land, load, look-raw, move, named, no-more, of-opd, stop, store-raw, u64}
 use Rattle.book.specs.Calls.{written, runCall}
 use Rattle.book.specs.Answers.{toldPass}
 use Rattle.lent_run.specs.Runs.{toldRun}

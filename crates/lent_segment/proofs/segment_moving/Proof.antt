@@ -1,7 +1,6 @@
 -- `segment_moving` meets its contract: its code is that of an evaluation with a lent list, the elected, over
 -- `evaluate_segment::segment`, to which the words of the moved are handed on.
-use lib.ListN.{length}
-use mir.Syntax.{w64, tyInt, tyArray}
+use Rattle.walks.proofs.WalkSteps.{length, w64, tyInt, tyArray}
 use Rattle.book.specs.Answers.{toldCounts}
 use Rattle.book.specs.Calls.{segmentCall}
 use Rattle.book.specs.Sizes.{movedLength}

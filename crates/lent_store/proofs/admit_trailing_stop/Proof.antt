@@ -1,8 +1,7 @@
 -- `admit_trailing_stop` meets its contract: the admission by value is called with the path, and the path that it
 -- answers is stored. The store goes to it for good.
-use mathlib.Core.Path.{_≡_}
-use Rattle.walks.proofs.WalkSteps.{refl, !, List, [], _$_, _∷_, assigns, by, fmOf, from, givenOf, hop, land, load}
-use Rattle.walks.proofs.WalkSteps.{look-raw, move, named, no-more, of-opd, stop, store-raw, u64}
+use Rattle.walks.proofs.WalkSteps.{_≡_, refl, !, List, [], _$_, _∷_, assigns, by, fmOf, from, givenOf, hop, land}
+use Rattle.walks.proofs.WalkSteps.{load, look-raw, move, named, no-more, of-opd, stop, store-raw, u64}
 use Rattle.book.specs.Answers.{toldAdmission}
 use Rattle.book.specs.Store.{admit}
 use Rattle.walks.proofs.Cells.{first-of, second-of, sliced, typeds, reads-at, copied, sets, enters, leaves, full}

@@ -1,8 +1,7 @@
 -- `clear` meets its contract: `clear` by value is called with the path, and the path that it answers is stored. The
 -- store goes to it for good.
-use mathlib.Core.Path.{_≡_}
-use Rattle.walks.proofs.WalkSteps.{refl, !, [], _$_, _∷_, assigns, by, fmOf, from, givenOf, hop, land, load, look-raw}
-use Rattle.walks.proofs.WalkSteps.{move, named, no-more, of-opd, stop, store-raw, u64}
+use Rattle.walks.proofs.WalkSteps.{_≡_, refl, !, [], _$_, _∷_, assigns, by, fmOf, from, givenOf, hop, land, load}
+use Rattle.walks.proofs.WalkSteps.{look-raw, move, named, no-more, of-opd, stop, store-raw, u64}
 use Rattle.book.specs.Answers.{toldLayout}
 use Rattle.book.specs.Store.{clear}
 use Rattle.walks.proofs.Cells.{first-of, second-of, sliced, reads-at, copied, sets, enters, leaves, full}
