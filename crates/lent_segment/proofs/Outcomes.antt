@@ -1,6 +1,6 @@
 -- A segment as a call that lists the elected, with the words of the moved as those of another list, and as one that
 -- lists the moved, with the elected as the other list.
-use Rattle.walks.proofs.WalkSteps.{_≡_, sym, ap, _∙_, List, map, ℕ, min}
+use Rattle.walks.proofs.WalkSteps.{_≡_, sym, ap, _∙_, List, map, ℕ, min, length}
 use native.Mathlib.Omega.{arith}
 use Rattle.error.specs.Answer.{Answer}
 use Rattle.book.specs.Calls.{segmentCall, SegmentOutcome}
@@ -14,13 +14,17 @@ use Rattle.evaluation.specs.Counts.{electedCount, movedCount}
 use Rattle.evaluation.proofs.Rooms.{segment-lists, segment-cut}
 use Rattle.listing.specs.Entries.{movedWords}
 use Rattle.walks.proofs.Constants.{mostMoves}
-use Rattle.walks.proofs.WordCalls.{Left, Lists}
+use Rattle.book.specs.Answers.{toldCounts}
+use Rattle.walks.proofs.Contracts.{Form}
+use Rattle.walks.proofs.ListCalls.{Listed}
+use Rattle.walks.proofs.Types.{PrintsOf, ElectedOf, EvaluatedOf}
+use Rattle.walks.proofs.WordCalls.{Left, Lists, Shape, Outcomes, paired}
 use Rattle.word_rooms.proofs.Listings.{elected, moved, elects, shifts}
 
 abbrev pub ofElected : SegmentOutcome → Left (Answer Counts) Elected (List ℕ)
 ofElected o = record { told = o .answer; words = o .words; entries = o .elected; others = map movedWords (o .moved) }
 
-abbrev pub ofMoved : SegmentOutcome → Left (Answer Counts) Moved Elected
+abbrev ofMoved : SegmentOutcome → Left (Answer Counts) Moved Elected
 ofMoved o = record { told = o .answer; words = o .words; entries = o .moved; others = o .elected }
 
 module _ (settings : Settings) (prints : PrintSegment) (w : List ℕ) where
@@ -48,3 +52,13 @@ module _ (settings : Settings) (prints : PrintSegment) (w : List ℕ) where
   pub moving : (n : ℕ) → Lists moved movedCount (λ room. ofMoved (call n room))
   moving n = shifts movedCount ofMoved (λ room. call n room) (λ room. segment-lists settings prints w n room .1)
       (λ room. cut-moved n room)
+
+-- the second with the list of the elected, as a call on lent lists
+abbrev pub shape : Shape
+shape = paired PrintsOf (ElectedOf .row) (ElectedOf .mir)
+
+abbrev pub outcome : Outcomes moved EvaluatedOf toldCounts shape
+outcome κ settings prints elected w room = ofMoved (segmentCall settings prints w (length (elected .now)) room)
+
+abbrev pub Segments : Form
+Segments = Listed moved EvaluatedOf toldCounts movedCount shape outcome

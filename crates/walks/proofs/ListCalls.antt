@@ -7,20 +7,20 @@ use lib.Seq.{length-front}
 use Rattle.walks.proofs.WalkSteps.{_≡_, refl, sym, ap, subst, _∙_, ℕ, _≤_, min, [], _∷_, _++_, List, map}
 use Rattle.walks.proofs.WalkSteps.{length, take, without, length-take, place, Lfts, Shares, URA, fullShare}
 use Rattle.walks.proofs.WalkSteps.{Name, Fn, Body, named, w64, tyInt, tyArray, field, copy, int, rvOpd, repeat}
-use Rattle.walks.proofs.WalkSteps.{assign, seq, return, call, Val, vint, SProp, ent, Lft, Share, Fml, froom}
-use Rattle.walks.proofs.WalkSteps.{flft, Model, RoutineEnv, Heap, Env, Calls, Loops, WpFn, Closed, Atoms}
-use Rattle.walks.proofs.WalkSteps.{GhostRules, Running, givenOf, tables, Given, Sq, runs, atRet, ‵, ⋆, _$_}
-use Rattle.walks.proofs.WalkSteps.{_∵_, !, qed, by, move, drop, use1, use2, and-then, no-more, assigns, land}
-use Rattle.walks.proofs.WalkSteps.{from, stop, of-opd, lit, rep, store-in, FmC, fmOf, Is, u64, RefT, sliceVal}
-use Rattle.walks.proofs.WalkSteps.{MutSlice, Room, yes, Seen, see, Triple, row, rewrite, prop, Denots, left}
+use Rattle.walks.proofs.WalkSteps.{assign, seq, return, call, Val, vint, SProp, Lft, Share, Fml, froom, flft}
+use Rattle.walks.proofs.WalkSteps.{Model, RoutineEnv, Heap, Env, Calls, Loops, Closed, Atoms, GhostRules}
+use Rattle.walks.proofs.WalkSteps.{Running, givenOf, tables, Given, Sq, runs, atRet, ‵, _$_, !, by, move, drop}
+use Rattle.walks.proofs.WalkSteps.{use1, use2, and-then, no-more, assigns, land, from, stop, of-opd, lit, rep}
+use Rattle.walks.proofs.WalkSteps.{store-in, FmC, fmOf, Is, u64, RefT, sliceVal, MutSlice, Room, yes, Seen}
+use Rattle.walks.proofs.WalkSteps.{see, Triple, row, rewrite, Denots}
 use Rattle.book.specs.Calls.{written}
 use Rattle.book.specs.declared.Settings.{Settings}
 use Rattle.walks.proofs.Buffers.{Entry, slot, blank-length, blankVal, zeros, zeroed, to-row, row-room}
 use Rattle.walks.proofs.Buffers.{lends-all, all-back}
-use Rattle.walks.proofs.Cells.{second-of, copied, Cell, room as empty, full, away, Typed, sliced, Blocks}
-use Rattle.walks.proofs.Cells.{envOf, cells, cellAt, held, reads, sets, takes, puts, enters, leaves}
+use Rattle.walks.proofs.Cells.{second-of, copied, Cell, room as empty, full, away, sliced, Blocks, envOf}
+use Rattle.walks.proofs.Cells.{cells, cellAt, held, reads, sets, takes, puts, enters, leaves}
 use Rattle.walks.proofs.Claims.{All, the-first, others-and}
-use Rattle.walks.proofs.Contracts.{Before, Form, Known, Keeps, rows, ends, calls, Computes}
+use Rattle.walks.proofs.Contracts.{Form, Known, Keeps, rows, ends, calls, Computes}
 use Rattle.walks.proofs.Contracts as contracts
 use Rattle.walks.proofs.FillLoop.{Fills}
 use Rattle.walks.proofs.Lending.{relends, points}
@@ -101,9 +101,6 @@ module _ (L : Listing) (P : Plain) {T : Type 0} (told : P .row .Denot → T) (co
     abbrev s₃ : Val
     s₃ = sliceVal (xe .ptr) n
 
-    abbrev args : List Val
-    args = s₁ ∷ SettingsOf .val settings ∷ third sh .val κ₂ x ∷ fourth sh .val κ₂ y ∷ s₃ ∷ []
-
     abbrev κs : Lfts 3
     κs = (κ₁, (κ₂, (κ₃, tt)))
 
@@ -158,16 +155,10 @@ module _ (L : Listing) (P : Plain) {T : Type 0} (told : P .row .Denot → T) (co
             rw (as-many, words-are) (written-back (L .words) (L .of) (out n .entries) (lists .back n)
             (take j (blanks L)) (without j (blanks L)))
 
-        -- ---- the end
-        exits : (ms : List (R .row .Denot)) → ms ≡ written (map (L .of) (take i all)) (xe .now)
-            → ent 𝓤 (⋆ 𝓤 H A (‵ (flft κ₃ q₃) ∷ ‵ (left (MutSlice (named 2) κ₃ (R .row) .exit yes) xe ms)
-            ∷ Gone 𝓤 κ₁ κ₂ q₁ q₂ xs sh x y (s .zs) (s .l₃) (s .l₄)))
-            (Post (P .val (s .answer)))
-        exits ms h =
-            qed W (‵ (flft κ₃ q₃) ∷ ‵ (left (MutSlice (named 2) κ₃ (R .row) .exit yes) xe ms)
-            ∷ Gone 𝓤 κ₁ κ₂ q₁ q₂ xs sh x y (s .zs) (s .l₃) (s .l₄)) ∵ move ! (2 ∷ 3 ∷ 0 ∷ 4 ∷ 5 ∷ 6 ∷ 1 ∷ []) $
-            by ! (ends Listed 𝓤 H A κs qs a W (s .answer) (s .is) (s .zs, (tt, (s .l₃, (s .l₄, (ms, tt)))))
-            (did .0, others-and _ _ _ rest (did .1 .0) (did .1 .1) (h ∙ ap (λ es. written es (xe .now)) entries-are)))
+        done : (ms : List (R .row .Denot)) → ms ≡ written (map (L .of) (take i all)) (xe .now)
+            → All (Done κ₂ y (xe .now) (out n) (s .answer) (s .zs) said ms)
+        done ms h =
+            (did .0, others-and _ _ _ rest (did .1 .0) (did .1 .1) (h ∙ ap (λ es. written es (xe .now)) entries-are))
 
     -- ---- the walk
     module _ (C : Calls 𝓤 H) (Λ : Loops 𝓤 H) (fm : FmC 𝓤 H (W .laws) C) (least callee counter filler : Name)
@@ -226,7 +217,9 @@ module _ (L : Listing) (P : Plain) {T : Type 0} (told : P .row .Denot → T) (co
               use1 W (‵ (froom (tyArray (tyArray (tyInt w64) (L .wide)) m) l 0))
               (row-room 𝓤 H A W (Entry (L .wide)) m l words (all-long j room-is s)) $ puts ! 13 _ refl $
               leaves ! 7 (got (full (P .val (s .answer))) empty i (full _ ∷ full _ ∷ full _ ∷ full _ ∷ full _
-              ∷ [])) refl tt refl $ by ! (exits j room-is s i counted (zs .0) h))))
+              ∷ [])) refl tt refl $ move ! (2 ∷ 3 ∷ 0 ∷ 4 ∷ 5 ∷ 6 ∷ 1 ∷ []) $
+              by ! (ends Listed 𝓤 H A κs qs a W (s .answer) (s .is) (s .zs, (tt, (s .l₃, (s .l₄, (zs .0, tt)))))
+              (done j room-is s i counted (zs .0) h)))))
 
         begins : Is (third sh .row κ₂) x (third sh .val κ₂ x ∷ []) → Is (fourth sh .row κ₂) y (fourth sh .val κ₂ y ∷ [])
             → Sq W (Owned 𝓤 κ₁ κ₂ q₁ q₂ xs sh x y ++ ‵ Records ∷ ‵ (flft κ₃ q₃)
@@ -248,18 +241,6 @@ module _ (L : Listing) (P : Plain) {T : Type 0} (told : P .row .Denot → T) (co
             (fills-list counter filler) (atRet En Post) fits₁ (‵ Records) (‵ (flft κ₃ q₃)) s₃ (zeros (L .wide))
             (vint w64 n) sh outcome x y bs x-is y-is known₁ (writes j room-is)))
 
-      walk : Is (third sh .row κ₂) x (third sh .val κ₂ x ∷ []) → Is (fourth sh .row κ₂) y (fourth sh .val κ₂ y ∷ [])
-          → Sq W (Before Listed 𝓤 κs qs a)
-          (prop (WpFn 𝓤 H C Λ (code least callee counter filler) args Post))
-      walk x-is y-is =
-          move ! (0 ∷ 1 ∷ 3 ∷ 4 ∷ 5 ∷ 6 ∷ 2 ∷ []) $
-          let t₂ : Typed (SettingsOf .mir) (SettingsOf .val settings) =
-          SettingsOf .typed 𝓤 H A W settings _ settings-is in
-          let t₃ : Typed (third sh .mir) (third sh .val κ₂ x) = third sh .typed 𝓤 H A W κ₂ x x-is in
-          let t₄ : Typed (fourth sh .mir) (fourth sh .val κ₂ y) = fourth sh .typed 𝓤 H A W κ₂ y y-is in
-          enters ! C Λ (code least callee counter filler) args
-          (sliced (fits₁ .0), (t₂, (t₃, (t₄, (sliced (fits₃ .0), tt))))) (λ bs. begins bs x-is y-is)
-
   -- ---- such a function is proved, with its callees as they are known
   module _ (lists : (κ : Lft) (settings : Settings) (x : third sh .row κ .Denot) (y : fourth sh .row κ .Denot)
       (w : List ℕ)
@@ -277,11 +258,25 @@ module _ (L : Listing) (P : Plain) {T : Type 0} (told : P .row .Denot → T) (co
     proved 𝓤 H 𝓜 𝓖 𝓡 γ name closed e₀ e₁ e₂ e₃ =
         let W : Given 𝓤 H (𝓖 .A) = givenOf 𝓤 H 𝓜 𝓖 in
         contracts.proved Listed 𝓤 H 𝓜 𝓖 𝓡 whole γ name closed (λ 𝓣 known κs qs a are ok.
-        walk 𝓤 H (𝓖 .A) W (κs .0) (κs .1 .0) (κs .1 .1 .0) (qs .0) (qs .1 .0) (qs .1 .1 .0) (a .0) (a .1 .0)
+        let x-is = are .1 .1 .0 in
+        let y-is = are .1 .1 .1 .0 in
+        move ! (0 ∷ 1 ∷ 3 ∷ 4 ∷ 5 ∷ 6 ∷ 2 ∷ []) $ enters ! (𝓣 .C) (𝓣 .Λ) whole _ (
+          sliced (are .0 .0 .1 .0),
+          (
+            SettingsOf .typed 𝓤 H (𝓖 .A) W (a .1 .0) _ (are .1 .0),
+            (
+              third sh .typed 𝓤 H (𝓖 .A) W (κs .1 .0) (a .1 .1 .0) x-is,
+              (
+                fourth sh .typed 𝓤 H (𝓖 .A) W (κs .1 .0) (a .1 .1 .1 .0) y-is,
+                (sliced (are .1 .1 .1 .1 .0 .0 .1 .0), tt),
+              ),
+            ),
+          ),
+        ) (λ bs.
+        begins 𝓤 H (𝓖 .A) W (κs .0) (κs .1 .0) (κs .1 .1 .0) (qs .0) (qs .1 .0) (qs .1 .1 .0) (a .0) (a .1 .0)
         (a .1 .1 .0)
         (a .1 .1 .1 .0) (a .1 .1 .1 .1 .0) (are .1 .0)
         (lists (κs .1 .0) (a .1 .0) (a .1 .1 .0) (a .1 .1 .1 .0) (a .0 .now)) (𝓣 .C) (𝓣 .Λ) (fmOf 𝓤 H (W .laws) 𝓣)
         (least .name) (callee .name) (counter .name) (filler .name) (known Least least e₀)
         (known (Evaluates L P told sh outcome) callee e₁) (known (Counts P (λ r. count (told r))) counter e₂)
-        (known (Fills R (L .wide) (L .of)) filler e₃) (are .0 .0 .1) (are .1 .1 .1 .1 .0 .0 .1) (are .1 .1 .0)
-        (are .1 .1 .1 .0))
+        (known (Fills R (L .wide) (L .of)) filler e₃) (are .0 .0 .1) (are .1 .1 .1 .1 .0 .0 .1) bs x-is y-is))

@@ -2,20 +2,20 @@
 -- their copies are printed. The store goes to the call for good.
 use lib.Dec.{lit<}
 use denote.Struct.Laws.{lawful}
-use Rattle.walks.proofs.WalkSteps.{_≡_, sym, ℕ, _++_, length, take, without, refl, !, List, [], _$_, _∷_, assigns, by}
-use Rattle.walks.proofs.WalkSteps.{feqL, fmOf, from, fsplit, fullShare, givenOf, land, lit, move, named, no-more}
-use Rattle.walks.proofs.WalkSteps.{of-opd, rewrite, sliceVal, stop, u64, unit-lit}
-use Rattle.book.specs.Answers.{toldCounts}
-use Rattle.book.specs.Calls.{written, segmentCall, SegmentOutcome}
+use Rattle.walks.proofs.WalkSteps.{sym, ℕ, _++_, take, without, refl, !, List, [], _$_, _∷_, assigns, by, feqL, fmOf}
+use Rattle.walks.proofs.WalkSteps.{from, fsplit, fullShare, givenOf, land, lit, move, named, no-more, of-opd, rewrite}
+use Rattle.walks.proofs.WalkSteps.{sliceVal, stop, u64, unit-lit, drop}
 use Rattle.book.specs.declared.Elected.{Elected}
 use Rattle.book.specs.declared.Moved.{Moved}
-use Rattle.book.proofs.Elected as elected
-use Rattle.book.proofs.Moved as moved
+use Rattle.book.proofs.Elected as elected-type
+use Rattle.book.proofs.Moved as moved-type
 use Rattle.walks.proofs.Buffers.{slot}
 use Rattle.walks.proofs.Cells.{typeds, sliced, envOf, cellAt, copied, reads, sets, takes, puts, enters, leaves, full}
 use Rattle.walks.proofs.Contracts.{Form, Known, ends, calls, proved, Computes}
+use Rattle.lent_segment.proofs.Outcomes.{Segments}
+use Rattle.walks.proofs.Lent.{has}
 use Rattle.walks.proofs.Lending.{relends, points}
-use Rattle.walks.proofs.Params.{value, values, lent}
+use Rattle.walks.proofs.Params.{values, lent}
 use Rattle.walks.proofs.Plain.{Plain, unit}
 use Rattle.walks.proofs.Types.{SettingsOf, PrintsOf, ElectedOf, MovedOf, EvaluatedOf}
 use Rattle.lent_calls.proofs.Local.{array, long, lends-array, array-home}
@@ -24,26 +24,13 @@ use Rattle.lent_calls.proofs.print_segment as printer
 use Rattle.lent_calls.proofs.segment_once as f
 
 abbrev ElectionsOf : Plain
-ElectionsOf = array ElectedOf 2 (λ M 𝓤 H A W. lawful elected.the-type elected.Laws.the-laws 𝓤 H A W) (λ d l. refl)
+ElectionsOf = array ElectedOf 2 (λ M 𝓤 H A W. lawful elected-type.the-type elected-type.Laws.the-laws 𝓤 H A W)
+    (λ d l. refl)
 
 abbrev MovesOf : Plain
-MovesOf = array MovedOf 3 (λ M 𝓤 H A W. lawful moved.the-type moved.Laws.the-laws 𝓤 H A W) (λ d l. refl)
+MovesOf = array MovedOf 3 (λ M 𝓤 H A W. lawful moved-type.the-type moved-type.Laws.the-laws 𝓤 H A W) (λ d l. refl)
 
 -- ---- the callees, and the function
-abbrev Segments : Form
-Segments = record {
-  lifetimes = 3;
-  params = lent 3 0 tt u64 ∷ value SettingsOf ∷ value PrintsOf ∷ lent 3 1 tt (ElectedOf .row) ∷ lent 3 2 tt
-      (MovedOf .row) ∷ [];
-  result = EvaluatedOf;
-  asks = λ κs a. [];
-  tells = λ κs a r e.
-      let o : SegmentOutcome = segmentCall (a .1 .0) (a .1 .1 .0) (a .0 .now) (length (a .1 .1 .1 .0 .now))
-      (length (a .1 .1 .1 .1 .0 .now)) in
-      (toldCounts r ≡ o .answer) ∷ (e .0 .now ≡ o .words) ∷ (e .1 .1 .1 .0 .now ≡ written (o .elected)
-      (a .1 .1 .1 .0 .now)) ∷ (e .1 .1 .1 .1 .0 .now ≡ written (o .moved) (a .1 .1 .1 .1 .0 .now)) ∷ [];
-}
-
 abbrev callee : Known Segments
 callee = record { name = core.Symbol.name; routine = core.Symbol.routine; met = core.Met.met }
 
@@ -91,7 +78,7 @@ segment-once-spec 𝓤 H 𝓜 𝓖 𝓡 =
     takes ! 8 refl $ lends-array ElectedOf tt 2 l es es-are ! tt (named 1) (lit< tt, lit< tt) (λ ν γ.
     takes ! 12 refl $ lends-array MovedOf tt 3 l′ ms ms-are ! tt (named 2) (lit< tt, lit< tt) (λ μ δ.
     -- [the moved; their token; what is kept; the elected; their token; what is kept; the store's token; the store; …]
-    move ! (6 ∷ 4 ∷ 1 ∷ 7 ∷ 3 ∷ 0 ∷ []) $
+    has PrintsOf ! (a .1 .1 .0) (are .1 .1 .0) $ move ! (7 ∷ 5 ∷ 2 ∷ 8 ∷ 0 ∷ 4 ∷ 1 ∷ []) $
     calls Segments ! fm (known Segments callee f.Code.calls-lent-segment·segment) (κs .0, (ν ∷ [], (μ ∷ [], tt)))
     (qs .0, (fullShare, (fullShare, tt))) (
       a .0,
@@ -105,14 +92,14 @@ segment-once-spec 𝓤 H 𝓜 𝓖 𝓡 =
           ),
         ),
       ),
-    ) (are .1 .0, (are .1 .1 .0, tt)) tt
+    ) (are .1 .0, tt) tt
     -- in the call: [what it asks; what is kept of the moved, of the elected; the locals (3)]
     (copied ! 13 refl (copied ! 5 refl (copied ! 6 refl (copied ! 15 refl (copied ! 17 refl (no-more !))))))
     (λ r zs is e.
     let es′ : List Elected = zs .1 .1 .1 .0 ++ without 2 es in
     let ms′ : List Moved = zs .1 .1 .1 .1 .0 ++ without 3 ms in
-    -- [the three tokens; the last of the store, the elected, the moved; what is kept of both; …]
-    move ! (4 ∷ []) $ fsplit ! $ move ! (1 ∷ []) $ feqL ! (λ same-e.
+    -- [the three tokens; the last of the store, the prints, the elected, the moved; what is kept of both; …]
+    move ! (4 ∷ []) $ drop ! $ move ! (4 ∷ []) $ fsplit ! $ move ! (1 ∷ []) $ feqL ! (λ same-e.
     move ! (5 ∷ []) $ fsplit ! $ move ! (1 ∷ []) $ feqL ! (λ same-m.
     -- [the moved's last list; the elected's; the three tokens; the store's last; what is kept of both; …]
     move ! (0 ∷ 4 ∷ 6 ∷ []) $ array-home MovedOf tt 3 l′ ms ms-are ! tt (zs .1 .1 .1 .1 .0) same-m (λ home′.

@@ -1,16 +1,19 @@
 -- `run_stop_triggers` meets its contract: the run by value is called with the path, and the path that it answers is
 -- stored; store, script and list go to it for good.
 use Rattle.walks.proofs.WalkSteps.{length, _≡_, ap, refl, !, [], _$_, _∷_, agg, assigns, by, fmOf, from, givenOf, hop}
-use Rattle.walks.proofs.WalkSteps.{land, load, look-raw, move, named, no-more, of-opd, stop, store-raw, u64}
+use Rattle.walks.proofs.WalkSteps.{land, load, look-raw, move, named, no-more, of-opd, stop, store-raw, u64, drop}
 use Rattle.book.specs.Calls.{written, runCall}
 use Rattle.book.specs.Answers.{toldPass}
 use Rattle.lent_run.specs.Runs.{toldRun}
 use Rattle.lent_run.specs.declared.Start.{Start}
+use Rattle.word_rooms.proofs.Listings.{elected}
+use Rattle.lent_run.proofs.Outcome.{shape, ran, runCount}
 use Rattle.lent_run.proofs.Types.{StartOf, StopRunOf, start-stands, run-parts}
 use Rattle.walks.proofs.Cells.{first-of, second-of, sliced, reads-at, copied, sets, enters, leaves, full}
 use Rattle.walks.proofs.Contracts.{Form, Known, calls, ends, proved}
 use Rattle.walks.proofs.Lending.{relends}
-use Rattle.walks.proofs.Lent.{opened, closed}
+use Rattle.walks.proofs.Lent.{has, opened, closed}
+use Rattle.walks.proofs.ListCalls.{Listed}
 use Rattle.walks.proofs.Params.{value, numbers, lent, lent-struct}
 use Rattle.walks.proofs.Types.{PathOf, LastOf, SettingsOf, ElectedOf, PassedOf}
 use Rattle.lent_run.proofs.run_listed as core
@@ -31,17 +34,7 @@ Runs = record {
 }
 
 abbrev Run : Form
-Run = record {
-  lifetimes = 3;
-  params = lent 3 0 tt u64 ∷ value SettingsOf ∷ numbers 3 1 tt ∷ value StartOf ∷ lent 3 2 tt (ElectedOf .row) ∷ [];
-  result = StopRunOf;
-  asks = λ κs a. [];
-  tells = λ κs a r e. let v = a .1 .1 in
-      let es = v .1 .1 .0 .now in
-      let o = runCall (a .1 .0) (v .0 .now) (v .1 .0 .trade) (a .0 .now) (length es) (v .1 .0 .path) in
-      (toldRun r ≡ (o .answer, o .path)) ∷ (e .0 .now ≡ o .words) ∷ (e .1 .1 .1 .1 .0 .now ≡ written (o .elected) es)
-      ∷ [];
-}
+Run = Listed elected StopRunOf toldRun runCount shape ran
 
 abbrev callee : Known Run
 callee = record { name = core.Symbol.name; routine = core.Symbol.routine; met = core.Met.met }
@@ -77,12 +70,13 @@ run-stop-triggers-spec 𝓤 H 𝓜 𝓖 𝓡 =
     (sets ! 17 refl (StartOf .typed 𝓤 H A W start _ start-is)) $
     relends ! 10 1 10 refl refl refl (tt, tt) refl refl refl store-fits $
     relends ! 10 6 12 refl refl refl (tt, tt) refl refl refl list-fits $
-    move ! (4 ∷ 5 ∷ 6 ∷ 7 ∷ 8 ∷ 9 ∷ []) $
+    has StartOf ! start start-is $ move ! (5 ∷ 6 ∷ 7 ∷ 8 ∷ 9 ∷ 0 ∷ 10 ∷ []) $
     calls Run ! (fmOf 𝓤 H (W .laws) 𝓣) (known Run callee f.Code.calls-lent-run·run-listed) (κs .0, κs .1 .1)
-    (qs .0, qs .1 .1) (a .0, (v .0, (v .1 .0, (start, v .1 .1 .1)))) (v-are .0, (start-is, tt)) tt
+    (qs .0, qs .1 .1) (a .0, (v .0, (v .1 .0, (start, v .1 .1 .1)))) (v-are .0, tt) tt
     (copied ! 16 refl (copied ! 8 refl
     (copied ! 9 refl (copied ! 12 refl (copied ! 18 refl (no-more !)))))) (λ d zs is e. let parts = run-parts d is in
-    move ! (6 ∷ 7 ∷ 8 ∷ 9 ∷ []) $
+    -- [three tokens; the last of store, script, start and list; the path's cell; …]
+    move ! (5 ∷ []) $ drop ! $ move ! (6 ∷ 7 ∷ 8 ∷ 9 ∷ []) $
     land ! (from ! (stop !)) (sets ! 18 refl (StopRunOf .typed 𝓤 H A W d _ is)) $
     assigns ! (of-opd ! (second-of {σ = PassedOf .mir} {τ = PathOf .mir} ! 18 refl refl))
     (from ! (hop ! (reads-at ! 12 refl) (stop !))) (store-raw ! 0 refl (PathOf .typed 𝓤 H A W (d .path) _ (parts .1))) $

@@ -2,24 +2,17 @@
 -- to which the list of the elected is handed on.
 use lib.ListN.{length}
 use Rattle.book.specs.Answers.{toldCounts}
-use Rattle.book.specs.Calls.{segmentCall}
 use Rattle.evaluation.specs.Counts.{movedCount}
 use Rattle.walks.proofs.Contracts.{Known}
 use Rattle.walks.proofs.ListCalls.{proved}
-use Rattle.walks.proofs.Types.{PrintsOf, ElectedOf, EvaluatedOf}
-use Rattle.walks.proofs.WordCalls.{Shape, Outcomes, paired, Evaluates}
+use Rattle.walks.proofs.Types.{EvaluatedOf}
+use Rattle.walks.proofs.WordCalls.{Evaluates}
 use Rattle.word_rooms.proofs.Callees.{least, moved-count}
 use Rattle.word_rooms.proofs.Listings.{moved}
 use Rattle.lent_lists.proofs.Callees.{fill-moved}
-use Rattle.lent_segment.proofs.Outcomes.{ofMoved, moving}
+use Rattle.lent_segment.proofs.Outcomes.{shape, outcome, moving}
 use Rattle.lent_segment.proofs.segment_moving as core
 use Rattle.lent_segment.proofs.segment as f
-
-abbrev shape : Shape
-shape = paired PrintsOf (ElectedOf .row) (ElectedOf .mir)
-
-abbrev outcome : Outcomes moved EvaluatedOf toldCounts shape
-outcome κ settings prints elected w room = ofMoved (segmentCall settings prints w (length (elected .now)) room)
 
 abbrev callee : Known (Evaluates moved EvaluatedOf toldCounts shape outcome)
 callee = record { name = core.Symbol.name; routine = core.Symbol.routine; met = core.Met.met }
