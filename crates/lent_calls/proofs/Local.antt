@@ -1,20 +1,17 @@
 -- A local that is lent for a call, for a lifetime that is made for the call, and had back when that ends: a struct, and
 -- an array as a slice of all its elements.
-use mathlib.Core.Path.{_≡_, refl, subst, sym, _∙_}
-use Prim.Native.Nat.{ℕ}
 use native.Mathlib.Omega.{arith}
-use mathlib.Core.List.{List, [], _∷_, _++_, map}
-use lib.ListN.{length, take, drop as without}
 use lib.Seq.{length-front, length-take-le}
 use types.SemTy.{Body}
 use denote.Memory.{partOf}
-use Rattle.walks.proofs.WalkSteps.{URA, fullShare, Ty, Lifetime, tyArray, Val, vptr, ent, Fml, GName, ftrue, fsep}
-use Rattle.walks.proofs.WalkSteps.{fat, flft, fres, flent, Heap, Atoms, sem, Given, Item, Goal, Soaks, Seq, ‵, _⊛_}
-use Rattle.walks.proofs.WalkSteps.{some, later, _$_, move, drop, use1, use2, use3, split, pick, rewrite, fsplit}
-use Rattle.walks.proofs.WalkSteps.{fjoin, fpick, fpack, feqI, await, lft-new, lft-end, Array, arrayVal, array-tells}
-use Rattle.walks.proofs.WalkSteps.{array-lawful, array-makes, Single, array-whole, yes, Last, left, row, Is, Tells}
-use Rattle.walks.proofs.WalkSteps.{Lawful, shows, lends-ref, ref-back, mem, lone, cellAt, partAt, RattleType, MutRef}
-use Rattle.walks.proofs.WalkSteps.{sliceVal, MutSlice, Room, finally, owned, peeks, now}
+use Rattle.walks.proofs.WalkSteps.{_≡_, refl, subst, sym, _∙_, ℕ, List, [], _∷_, _++_, map, length, take, without}
+use Rattle.walks.proofs.WalkSteps.{URA, fullShare, Ty, Lifetime, tyArray, Val, vptr, Fml, GName, ftrue, fsep, fat}
+use Rattle.walks.proofs.WalkSteps.{flft, fres, flent, Heap, Atoms, Given, Item, Goal, Soaks, Seq, ‵, _⊛_, some, later}
+use Rattle.walks.proofs.WalkSteps.{_$_, move, drop, use1, use2, use3, split, pick, rewrite, fsplit, fjoin, fpick}
+use Rattle.walks.proofs.WalkSteps.{fpack, feqI, await, lft-new, lft-end, Array, arrayVal, array-tells, array-lawful}
+use Rattle.walks.proofs.WalkSteps.{array-makes, Single, array-whole, yes, Last, left, row, Is, Tells, Lawful, shows}
+use Rattle.walks.proofs.WalkSteps.{lends-ref, ref-back, mem, lone, cellAt, partAt, RattleType, MutRef, sliceVal}
+use Rattle.walks.proofs.WalkSteps.{MutSlice, Room, finally, owned, peeks, now}
 use Rattle.walks.proofs.Buffers.{to-row, slot, Kept, lends-part, part-back}
 use Rattle.walks.proofs.Lent.{has}
 use Rattle.walks.proofs.Plain.{Plain, Stands}
@@ -34,30 +31,18 @@ array P n lawful silent = record {
   silent = silent;
 }
 
--- ---- a local's cell, and what lies there as a borrow holds it
-module _ {M : Type 1} (𝓤 : URA M) (H : Heap 𝓤) (A : Atoms 𝓤) (W : Given 𝓤 H A) where
-  bares : (τs : List Ty) → Single τs → (v : Val) (l : ℕ)
-      → ent 𝓤 (H .at fullShare (lone τs) l 0 v) (sem 𝓤 H A (cellAt fullShare τs (v ∷ []) l 0))
-  bares [] s v l = absurd s
-  bares (τ ∷ []) s v l = W .laws .at-raw fullShare τ l 0 v
-  bares (τ ∷ σ ∷ τs) s v l = absurd s
-
-  clothes : (τs : List Ty) → Single τs → (v : Val) (l : ℕ)
-      → ent 𝓤 (sem 𝓤 H A (cellAt fullShare τs (v ∷ []) l 0)) (H .at fullShare (lone τs) l 0 v)
-  clothes [] s v l = absurd s
-  clothes (τ ∷ []) s v l = W .laws .raw-at fullShare τ l 0 v
-  clothes (τ ∷ σ ∷ τs) s v l = absurd s
-
+-- what lies in a local, as a borrow holds it, is its cell
 module _ {M : Type 1} {𝓤 : URA M} {H : Heap 𝓤} {A : Atoms 𝓤} {K : Type 0} {W : Given 𝓤 H A} {Γ : List (Item 𝓤)}
     {G : Goal 𝓤 H} where
-  shows-up : K → (R : RattleType) (val : R .Denot → Val) → Tells R (Is R) (λ d. val d ∷ []) → Single (R .mir) → (l : ℕ)
-      (h : R .Denot) → (Is R h (val h ∷ []) → Seq K W (‵ (fat fullShare (lone (R .mir)) l 0 (val h)) ∷ Γ) G)
+  shows-up : K → (R : RattleType) (val : R .Denot → Val) → Tells R (Is R) (λ d. val d ∷ []) → (τ : Ty) → R .mir ≡ τ ∷ []
+      → (l : ℕ) (h : R .Denot) → (Is R h (val h ∷ []) → Seq K W (‵ (fat fullShare τ l 0 (val h)) ∷ Γ) G)
       → Seq K W (‵ (partAt R fullShare h l 0) ∷ Γ) G
   unfolding partOf
-  shows-up t R val tells one l h k =
+  shows-up t R val tells τ one l h k =
       fpick t (λ vs. fsplit t $ move t (1 ∷ []) $ peeks t R (Is R) (shows 𝓤 H A R) h vs (λ is. drop t $
       rewrite t 0 (λ (us : List Val). ‵ (cellAt fullShare (R .mir) us l 0)) (tells h vs is) refl $
-      use1 W (‵ (fat fullShare (lone (R .mir)) l 0 (val h))) (clothes 𝓤 H A W (R .mir) one (val h) l) $
+      rewrite t 0 (λ (τs : List Ty). ‵ (cellAt fullShare τs (val h ∷ []) l 0)) one refl $
+      use1 W (‵ (fat fullShare τ l 0 (val h))) (W .laws .raw-at fullShare τ l 0 (val h)) $
       k (subst (Is R h) (tells h vs is) is)))
 
 -- ---- a struct
@@ -70,13 +55,15 @@ module _ (P : Plain) (l ν : ℕ) (γ : GName) where
   Ours = flent (ν ∷ []) (Body (mem (P .row)) l 0 γ)
 
 module _ {M : Type 1} {𝓤 : URA M} {H : Heap 𝓤} {A : Atoms 𝓤} {K : Type 0} {W : Given 𝓤 H A} {Γ : List (Item 𝓤)}
-    {G : Goal 𝓤 H} (P : Plain) (one : Single (P .row .mir)) (l : ℕ) where
+    {G : Goal 𝓤 H} (P : Plain) (one : P .row .mir ≡ P .mir ∷ []) (l : ℕ) where
   pub lends : K → Soaks G → (ℓ : Lifetime) (h : P .row .Denot) → Stands P h
       → ((ν : ℕ) (γ : GName) → Seq K W (‵ (Ref P l ν γ ℓ h) ∷ ‵ (flft (ν ∷ []) fullShare) ∷ ‵ (Ours P l ν γ) ∷ Γ) G)
-      → Seq K W (‵ (fat fullShare (lone (P .row .mir)) l 0 (P .val h)) ∷ Γ) G
+      → Seq K W (‵ (fat fullShare (P .mir) l 0 (P .val h)) ∷ Γ) G
   unfolding partOf
   lends t z ℓ h is k =
-      use1 W (‵ (cellAt fullShare (P .row .mir) (P .val h ∷ []) l 0)) (bares 𝓤 H A W (P .row .mir) one (P .val h) l) $
+      use1 W (‵ (cellAt fullShare (P .mir ∷ []) (P .val h ∷ []) l 0)) (W .laws .at-raw fullShare (P .mir) l 0
+      (P .val h)) $
+      rewrite t 0 (λ (τs : List Ty). ‵ (cellAt fullShare τs (P .val h ∷ []) l 0)) (sym one) refl $
       has P t h is $ move t (1 ∷ 0 ∷ []) $ fjoin t $
       fpack t (List Val) (λ vs. fsep (cellAt fullShare (P .row .mir) vs l 0) (P .row .own h vs)) (P .val h ∷ []) $
       lft-new t z (λ ν. move t (1 ∷ []) $
@@ -84,12 +71,12 @@ module _ {M : Type 1} {𝓤 : URA M} {H : Heap 𝓤} {A : Atoms 𝓤} {K : Type 
       (lends-ref 𝓤 H A W (P .row) ℓ (ν ∷ []) h l 0) $ await t z $ pick t (λ γ. split t $ move t (0 ∷ 2 ∷ []) $ k ν γ))
 
   pub comes-home : K → Soaks G → (h : P .row .Denot) {ν : ℕ} {γ : GName}
-      → (Stands P h → Seq K W (‵ (fat fullShare (lone (P .row .mir)) l 0 (P .val h)) ∷ Γ) G)
+      → (Stands P h → Seq K W (‵ (fat fullShare (P .mir) l 0 (P .val h)) ∷ Γ) G)
       → Seq K W (‵ (fres γ (P .row .coded .code h)) ∷ ‵ (flft (ν ∷ []) fullShare) ∷ ‵ (Ours P l ν γ) ∷ Γ) G
   comes-home t z h {ν} {γ} k =
       move t (1 ∷ []) $ lft-end t z $ move t (0 ∷ 2 ∷ 1 ∷ []) $
       use3 W (later (‵ (partAt (P .row) fullShare h l 0))) (ref-back 𝓤 H A W (P .row) (ν ∷ []) γ h l 0) $ await t z $
-      shows-up t (P .row) (P .val) (P .tells) one l h k
+      shows-up t (P .row) (P .val) (P .tells) (P .mir) one l h k
 
 -- ---- an array of n
 module _ (P : Plain) (n : ℕ) (xs : List (P .row .Denot)) where
@@ -125,4 +112,5 @@ module _ {M : Type 1} {𝓤 : URA M} {H : Heap 𝓤} {A : Atoms 𝓤} {K : Type 
       use1 W (‵ (partAt (Array (P .row) n) fullShare (zs ++ without n xs) l 0))
       (array-whole 𝓤 H A W (P .row) fullShare n (zs ++ without n xs) l 0) $
       shows-up t (Array (P .row) n) (λ xs. arrayVal (map (P .val) xs))
-      (array-tells (P .row) (λ d. P .val d ∷ []) (P .tells) n) tt l (zs ++ without n xs) go
+      (array-tells (P .row) (λ d. P .val d ∷ []) (P .tells) n) (tyArray (lone (P .row .mir)) n) refl l
+      (zs ++ without n xs) go

@@ -4,13 +4,11 @@ use Rattle.entry_records.specs.Records.{electedOf, movedOf}
 use Rattle.walks.proofs.FillLoop.{Fills}
 use Rattle.walks.proofs.Contracts.{Known}
 use Rattle.walks.proofs.Types.{ElectedOf, MovedOf}
-use Rattle.lent_lists.proofs.fill_elected.Symbol as elected-def
-use Rattle.lent_lists.proofs.fill_elected.Met as elected-thm
-use Rattle.lent_lists.proofs.fill_moved.Symbol as moved-def
-use Rattle.lent_lists.proofs.fill_moved.Met as moved-thm
+use Rattle.lent_lists.proofs.fill_elected as elected-fn
+use Rattle.lent_lists.proofs.fill_moved as moved-fn
 
 abbrev pub fill-elected : Known (Fills ElectedOf electedLength electedOf)
-fill-elected = record { name = elected-def.name; routine = elected-def.routine; met = elected-thm.met }
+fill-elected = record { name = elected-fn.Symbol.name; routine = elected-fn.Symbol.routine; met = elected-fn.Met.met }
 
 abbrev pub fill-moved : Known (Fills MovedOf movedLength movedOf)
-fill-moved = record { name = moved-def.name; routine = moved-def.routine; met = moved-thm.met }
+fill-moved = record { name = moved-fn.Symbol.name; routine = moved-fn.Symbol.routine; met = moved-fn.Met.met }

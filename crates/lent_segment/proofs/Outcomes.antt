@@ -1,8 +1,6 @@
 -- A segment as a call that lists the elected, with the words of the moved as those of another list, and as one that
 -- lists the moved, with the elected as the other list.
-use mathlib.Core.Path.{_≡_, sym, ap, _∙_}
-use mathlib.Core.List.{List, map}
-use Prim.Native.Nat.{ℕ, min}
+use Rattle.walks.proofs.WalkSteps.{_≡_, sym, ap, _∙_, List, map, ℕ, min, length}
 use native.Mathlib.Omega.{arith}
 use Rattle.error.specs.Answer.{Answer}
 use Rattle.book.specs.Calls.{segmentCall, SegmentOutcome}
@@ -16,10 +14,14 @@ use Rattle.evaluation.specs.Counts.{electedCount, movedCount}
 use Rattle.evaluation.proofs.Rooms.{segment-lists, segment-cut}
 use Rattle.book.specs.Entries.{movedWords}
 use Rattle.walks.proofs.Constants.{mostMoves}
-use Rattle.walks.proofs.WordCalls.{Left, Lists}
+use Rattle.book.specs.Answers.{toldCounts}
+use Rattle.walks.proofs.Contracts.{Form}
+use Rattle.walks.proofs.ListCalls.{Listed}
+use Rattle.walks.proofs.Types.{PrintsOf, ElectedOf, EvaluatedOf}
+use Rattle.walks.proofs.WordCalls.{Left, Lists, Shape, Outcomes, paired}
 use Rattle.word_rooms.proofs.Listings.{elected, moved, elects, shifts}
 
-abbrev ofElected : SegmentOutcome → Left (Answer Counts) Elected (List ℕ)
+abbrev pub ofElected : SegmentOutcome → Left (Answer Counts) Elected (List ℕ)
 ofElected o = record { told = o .answer; words = o .words; entries = o .elected; others = map movedWords (o .moved) }
 
 abbrev ofMoved : SegmentOutcome → Left (Answer Counts) Moved Elected
@@ -43,16 +45,20 @@ module _ (settings : Settings) (prints : PrintSegment) (w : List ℕ) where
       ∙ segment-cut settings prints w e m
 
   -- n is the room of the other list
-  abbrev pub electing : ℕ → ℕ → Left (Answer Counts) Elected (List ℕ)
-  electing n room = ofElected (call room n)
+  pub electing : (n : ℕ) → Lists elected electedCount (λ room. ofElected (call room n))
+  electing n = elects electedCount ofElected (λ room. call room n) (λ room. segment-lists settings prints w room n .0)
+      (λ room. cut-elected room n)
 
-  abbrev pub moving : ℕ → ℕ → Left (Answer Counts) Moved Elected
-  moving n room = ofMoved (call n room)
+  pub moving : (n : ℕ) → Lists moved movedCount (λ room. ofMoved (call n room))
+  moving n = shifts movedCount ofMoved (λ room. call n room) (λ room. segment-lists settings prints w n room .1)
+      (λ room. cut-moved n room)
 
-  pub electing-lists : (n : ℕ) → Lists elected electedCount (electing n)
-  electing-lists n = elects electedCount (electing n) (λ room. segment-lists settings prints w room n .0)
-      (λ room. ap (λ (o : SegmentOutcome). ofElected o) (cut-elected room n))
+-- the second with the list of the elected, as a call on lent lists
+abbrev pub shape : Shape
+shape = paired PrintsOf (ElectedOf .row) (ElectedOf .mir)
 
-  pub moving-lists : (n : ℕ) → Lists moved movedCount (moving n)
-  moving-lists n = shifts movedCount (moving n) (λ room. segment-lists settings prints w n room .1)
-      (λ room. ap (λ (o : SegmentOutcome). ofMoved o) (cut-moved n room))
+abbrev pub outcome : Outcomes moved EvaluatedOf toldCounts shape
+outcome κ settings prints elected w room = ofMoved (segmentCall settings prints w (length (elected .now)) room)
+
+abbrev pub Segments : Form
+Segments = Listed moved EvaluatedOf toldCounts movedCount shape outcome

@@ -1,22 +1,32 @@
 -- The locals of a function that is walked, one item each, in their order behind what else is had: a local is read, set,
 -- taken out and put back by its position; they are allocated where the function is entered, and freed where it returns.
-use mathlib.Core.Path.{_≡_, refl, sym, subst}
-use Prim.Native.Nat.{ℕ, _<_, _^_}
-use mathlib.Core.List.{List, [], _∷_, _++_}
 use lib.Dec.{T as Holds}
-use lib.ListN.{getD, take, drop, take-append-drop}
-use mir.Syntax.{place}
+use lib.ListN.{drop, take-append-drop}
+use mathlib.Core.Option.{some}
+use mir.Syntax.{Sym, Tys, tyStruct}
+use mir.Val.{Vals, vstruct}
+use mir.Fields.{getV}
+use prog.Memory.{fieldAt}
+use types.Run.{Walks}
 use types.Kit.{allocs, passes, params′, del, pull, fill, push, pop, ⊢++, ++⊢, assume, each}
-use Rattle.walks.proofs.WalkSteps.{Fits as Small, Opd, URA, fullShare, Ty, Local, Fn, Body, local, copy}
+use Rattle.walks.proofs.WalkSteps.{_≡_, refl, sym, subst, ℕ, _+_, _<_, _^_, [], List, _∷_, _++_, getD, take}
+use Rattle.walks.proofs.WalkSteps.{place, Fits as Small, Opd, URA, fullShare, Ty, Local, Fn, Body, local, copy}
 use Rattle.walks.proofs.WalkSteps.{return, Val, hasTy, WT, SProp, ent, sep, wand, emp, id⊢, via, comm∗, assoc∗}
 use Rattle.walks.proofs.WalkSteps.{assoc′, monoL, monoR, guardI, snd∗, Share, fat, froom, fdies, Heap, Env}
 use Rattle.walks.proofs.WalkSteps.{Calls, Loops, WpFn, release, noLocal, spotOf, Atoms, Given, Item, Goal, Seq}
 use Rattle.walks.proofs.WalkSteps.{Step, step, prop, runs, atRet, ‵, raw, _⊛_, mean, ⋆, nth, put, _$_, _∵_, ! }
 use Rattle.walks.proofs.WalkSteps.{qed, by, move, use0, use1, use2, split, join, frame, done, Reads, Writes}
 use Rattle.walks.proofs.WalkSteps.{stop, from, load, returns, enter, alloc1, alloc0, params1, pass1, pass0}
-use Rattle.walks.proofs.WalkSteps.{Part, look-in, w64, Denots}
-use Rattle.walks.proofs.Frame.{Cell, room, full, away}
-use Rattle.walks.proofs.Plain.{Plain, rows, Held}
+use Rattle.walks.proofs.WalkSteps.{Part, look-in, w64, Denots, Operand, Opds, and-then, Finds, PStep, Spot}
+use Rattle.walks.proofs.WalkSteps.{field, fld, sub, tcons, tnil, vcons, vnil, valueLocal}
+use Rattle.walks.proofs.Params.{taken, Held}
+use Rattle.walks.proofs.Plain.{Plain}
+
+-- a local is room, or holds a value, or its cell is elsewhere
+pub data Cell : Type 0 where
+  room : Cell
+  full : Val → Cell
+  away : Cell
 
 abbrev pub Typed : Ty → Val → Type 0
 Typed τ v = Holds (hasTy τ v) × WT v
@@ -26,12 +36,12 @@ abbrev pub sliced : {c : ℕ} → c < 2 ^ 64 → Unit {0} × (Unit {0} × (Small
 sliced f = (tt, (tt, (record { fits = f }, tt)))
 
 -- that plain values are of theirs
-abbrev pub Typeds : (Ps : List Plain) → Denots (rows Ps) → Type 0
+abbrev pub Typeds : (Ps : List Plain) → Denots (taken Ps) → Type 0
 Typeds [] a = Unit {0}
 Typeds (P ∷ Ps) a = Typed (P .mir) (P .val (a .0)) × Typeds Ps (a .1)
 
-pub typeds : {M : Type 1} (𝓤 : URA M) (H : Heap 𝓤) (A : Atoms 𝓤) → Given 𝓤 H A → (Ps : List Plain) (a : Denots (rows Ps))
-    → Held Ps a → Typeds Ps a
+pub typeds : {M : Type 1} (𝓤 : URA M) (H : Heap 𝓤) (A : Atoms 𝓤) → Given 𝓤 H A → (Ps : List Plain)
+    (a : Denots (taken Ps)) → Held Ps a → Typeds Ps a
 typeds 𝓤 H A W [] a are = tt
 typeds 𝓤 H A W (P ∷ Ps) a are = (P .typed 𝓤 H A W (a .0) _ (are .0), typeds 𝓤 H A W Ps (a .1) (are .1))
 
@@ -51,6 +61,13 @@ module _ {M : Type 1} (𝓤 : URA M) (H : Heap 𝓤) where
   -- local i
   abbrev pub cellAt : Env 𝓤 H → ℕ → Cell → Item 𝓤
   cellAt E i c = cell (getD E i (noLocal 𝓤 H)) c
+
+-- a struct of two
+abbrev Two : Sym → Ty → Ty → Ty
+Two ν σ τ = tyStruct ν (tcons σ (tcons τ tnil))
+
+abbrev two : Val → Val → Val
+two u v = vstruct (vcons u (vcons v vnil))
 
 -- ---- a local by its position
 module _ {M : Type 1} {𝓤 : URA M} {H : Heap 𝓤} {A : Atoms 𝓤} {K : Type 0} {W : Given 𝓤 H A} where
@@ -81,6 +98,36 @@ module _ {M : Type 1} {𝓤 : URA M} {H : Heap 𝓤} {A : Atoms 𝓤} {K : Type 
       → nth 𝓤 H A n Γ ≡ (‵ (fat fullShare (spotOf 𝓤 H E i .0) (spotOf 𝓤 H E i .1) 0 v) ⊛ j)
       → Opd K W Γ E (copy (place i [])) v
   reads t n e = load t (from t (stop t)) (reads-at t n e)
+
+  -- before other operands
+  pub copied : K → {E : Env 𝓤 H} {i : ℕ} {xs : List Operand} {vs : List Val} (n : ℕ) {v : Val} {j : Item 𝓤}
+      → nth 𝓤 H A n Γ ≡ (‵ (fat fullShare (spotOf 𝓤 H E i .0) (spotOf 𝓤 H E i .1) 0 v) ⊛ j) → Opds K W Γ E xs vs
+      → Opds K W Γ E (copy (place i []) ∷ xs) (v ∷ vs)
+  copied t n e xs = and-then t (reads t n e) xs
+
+  -- a field of the struct that a local holds; and as operands those of a struct of two
+  pub in-field : K → (n k : ℕ) {ν : Sym} {τs : Tys} {τ : Ty} {b o d : ℕ} {vs : Vals} {j : Item 𝓤}
+      → nth 𝓤 H A n Γ ≡ (‵ (fat fullShare (tyStruct ν τs) b o (vstruct vs)) ⊛ j) → fieldAt 0 τs k ≡ some (τ, d)
+      → Reads K W Γ τ b (o + d) (getV vs k)
+  in-field t n k {ν} {τs} {b = b} {o} {vs = vs} {j} e at-k = look-in t n (sub t k at-k (subst (λ (i : Item 𝓤).
+      Part K W i fullShare (tyStruct ν τs) b o (vstruct vs) (λ u. ‵ (fat fullShare (tyStruct ν τs) b o u) ⊛ j))
+      (sym e) (held t)))
+
+  pub within : K → {E : Env 𝓤 H} {i : ℕ} {e : Ty × ℕ} {st : List PStep} {sp : Spot 𝓤 H} → getD E i (noLocal 𝓤 H) ≡ e
+      → Walks K W Γ E (e .0, e .1, 0) st sp → Finds K W Γ E (place i st) sp
+  within t {E} {st = st} {sp} spot w = from t
+      (subst (λ (e : Ty × ℕ). Walks K W Γ E (e .0, e .1, 0) st sp) (sym spot) w)
+
+  module _ {E : Env 𝓤 H} {i : ℕ} {ν : Sym} {σ τ : Ty} {b : ℕ} {u v : Val} {j : Item 𝓤} where
+    pub first-of : K → (n : ℕ) → getD E i (noLocal 𝓤 H) ≡ (Two ν σ τ, b)
+        → nth 𝓤 H A n Γ ≡ (‵ (fat fullShare (Two ν σ τ) b 0 (two u v)) ⊛ j)
+        → Opd K W Γ E (copy (place i (field 0 ∷ []))) u
+    first-of t n spot e = load t (within t spot (fld t refl (stop t))) (in-field t n 0 e refl)
+
+    pub second-of : K → (n : ℕ) → getD E i (noLocal 𝓤 H) ≡ (Two ν σ τ, b)
+        → nth 𝓤 H A n Γ ≡ (‵ (fat fullShare (Two ν σ τ) b 0 (two u v)) ⊛ j)
+        → Opd K W Γ E (copy (place i (field 1 ∷ []))) v
+    second-of t n spot e = load t (within t spot (fld t refl (stop t))) (in-field t n 1 e refl)
 
   -- a local that is room is set
   pub sets : K → (n : ℕ) {τ : Ty} {b o : ℕ} {v : Val} {j : Item 𝓤} → nth 𝓤 H A n Γ ≡ (‵ (froom τ b o) ⊛ j) → Typed τ v
@@ -120,6 +167,10 @@ module _ {M : Type 1} {𝓤 : URA M} {H : Heap 𝓤} {A : Atoms 𝓤} {K : Type 
         (via 𝓤 _ (fill 𝓤 H A n (i ⊛ j) Γ) (s .prf))))))
 
 -- ---- entry
+abbrev pub by-value : List Ty → List Local
+by-value [] = []
+by-value (τ ∷ τs) = local τ valueLocal ∷ by-value τs
+
 -- a block for each local
 abbrev pub Blocks : List Local → Type 0
 Blocks [] = Unit {0}

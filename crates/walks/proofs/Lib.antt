@@ -6,11 +6,9 @@ pub mod Constants
 pub mod Contracts
 pub mod ListCalls
 pub mod FillLoop
-pub mod Frame
 pub mod Lending
 pub mod Lent
 pub mod Params
-pub mod PathCalls
 pub mod ThinStores
 pub mod Plain
 pub mod Types

@@ -2,40 +2,33 @@
 -- far as the list has room, is lent to that one, with what is handed on to it, and then, to be read, with the list to
 -- one that fills it. The signature, the contract and the code of such a function, and that the code meets the contract
 -- where the callees meet theirs.
-use mathlib.Core.Path.{_≡_, refl, sym, ap, subst, _∙_}
-use Prim.Native.Nat.{ℕ, _≤_, min}
 use native.Mathlib.Omega.{arith}
-use mathlib.Core.List.{[], _∷_, _++_, List, map}
-use lib.ListN.{length, take, drop as without, length-take}
 use lib.Seq.{length-front}
-use mir.Syntax.{place}
-use Rattle.walks.proofs.WalkSteps.{Lfts, Shares, URA, fullShare, Name, Fn, Body, named, w64, tyInt, tyArray}
-use Rattle.walks.proofs.WalkSteps.{field, copy, int, rvOpd, repeat, assign, seq, return, call, Val, vint}
-use Rattle.walks.proofs.WalkSteps.{SProp, ent, Lft, Share, Fml, ftrue, froom, flft, Model, RoutineEnv, Heap}
-use Rattle.walks.proofs.WalkSteps.{Env, Calls, Loops, WpFn, Closed, Atoms, GhostRules, Running, givenOf}
-use Rattle.walks.proofs.WalkSteps.{tables, Given, Sq, runs, atRet, ‵, _⊛_, ⋆, _$_, _∵_, !, qed, by, move, keep}
-use Rattle.walks.proofs.WalkSteps.{drop, use1, use2, split, join, fsplit, fjoin, and-then, no-more, assigns}
-use Rattle.walks.proofs.WalkSteps.{land, from, stop, fld, load, of-opd, lit, rep, sub, look-in, store-in, FmC}
-use Rattle.walks.proofs.WalkSteps.{fmOf, Is, u64, RefT, sliceVal, MutSlice, Room, finally, yes, Seen, see}
-use Rattle.walks.proofs.WalkSteps.{nothing, Triple, row, rewrite, feqL, prop, Denots}
+use Rattle.walks.proofs.WalkSteps.{_≡_, refl, sym, ap, subst, _∙_, ℕ, _≤_, min, [], _∷_, _++_, List, map}
+use Rattle.walks.proofs.WalkSteps.{length, take, without, length-take, place, Lfts, Shares, URA, fullShare}
+use Rattle.walks.proofs.WalkSteps.{Name, Fn, Body, named, w64, tyInt, tyArray, field, copy, int, rvOpd, repeat}
+use Rattle.walks.proofs.WalkSteps.{assign, seq, return, call, Val, vint, SProp, Lft, Share, Fml, froom, flft}
+use Rattle.walks.proofs.WalkSteps.{Model, RoutineEnv, Heap, Env, Calls, Loops, Closed, Atoms, GhostRules}
+use Rattle.walks.proofs.WalkSteps.{Running, givenOf, tables, Given, Sq, runs, atRet, ‵, _$_, !, by, move, drop}
+use Rattle.walks.proofs.WalkSteps.{use1, use2, and-then, no-more, assigns, land, from, stop, of-opd, lit, rep}
+use Rattle.walks.proofs.WalkSteps.{store-in, FmC, fmOf, Is, u64, RefT, sliceVal, MutSlice, Room, yes, Seen}
+use Rattle.walks.proofs.WalkSteps.{see, Triple, row, rewrite, Denots}
 use Rattle.book.specs.Calls.{written}
 use Rattle.book.specs.declared.Settings.{Settings}
 use Rattle.walks.proofs.Buffers.{Entry, slot, blank-length, blankVal, zeros, zeroed, to-row, row-room}
 use Rattle.walks.proofs.Buffers.{lends-all, all-back}
-use Rattle.walks.proofs.Cells.{Typed, sliced, Blocks, envOf, cells, cellAt, held, reads}
-use Rattle.walks.proofs.Cells.{sets, takes, puts, enters, leaves}
-use Rattle.walks.proofs.Contracts.{Form, Known, Keeps, rows, ends, calls, Computes, computes}
+use Rattle.walks.proofs.Cells.{second-of, copied, Cell, room as empty, full, away, sliced, Blocks, envOf}
+use Rattle.walks.proofs.Cells.{cells, cellAt, held, reads, sets, takes, puts, enters, leaves}
+use Rattle.walks.proofs.Contracts.{Form, Known, Keeps, rows, ends, calls, Computes}
 use Rattle.walks.proofs.Contracts as contracts
 use Rattle.walks.proofs.FillLoop.{Fills}
-use Rattle.walks.proofs.Frame.{Cell, room as empty, full, away}
 use Rattle.walks.proofs.Lending.{relends, points}
-use Rattle.walks.proofs.Lent.{has}
 use Rattle.walks.proofs.Params.{lent}
 use Rattle.walks.proofs.Plain.{Plain, Stands, word, unit}
 use Rattle.walks.proofs.Types.{SettingsOf}
 use Rattle.walks.proofs.WordCalls.{Listing, blanks, Lists, Shape, third, fourth, with-list, again, part}
-use Rattle.walks.proofs.WordCalls.{evaluates-to, locals, block, Outcome, Outcomes, Did, Evaluates, Said}
-use Rattle.walks.proofs.WordCalls.{Done, did-tell, did-list, did-done, Owned, Gone, evaluates}
+use Rattle.walks.proofs.WordCalls.{evaluates-to, locals, block, Outcome, Outcomes, Did, Done, did-tell, did-list, did-done, Evaluates, Said, Owned}
+use Rattle.walks.proofs.WordCalls.{Gone, evaluates}
 use Rattle.walks.proofs.Written.{written-back}
 
 -- ---- the callees beside the evaluation: the least of two numbers, and how many entries an answer counts
@@ -54,7 +47,7 @@ module _ (L : Listing) (P : Plain) {T : Type 0} (told : P .row .Denot → T) (co
   m = L .most .most
 
   -- ---- the function
-  abbrev Listed : Form
+  abbrev pub Listed : Form
   Listed = record {
     lifetimes = 3;
     params = with-list sh (lent 3 2 tt (R .row));
@@ -101,9 +94,6 @@ module _ (L : Listing) (P : Plain) {T : Type 0} (told : P .row .Denot → T) (co
 
     abbrev s₃ : Val
     s₃ = sliceVal (xe .ptr) n
-
-    abbrev args : List Val
-    args = s₁ ∷ SettingsOf .val settings ∷ third sh .val κ₂ x ∷ fourth sh .val κ₂ y ∷ s₃ ∷ []
 
     abbrev κs : Lfts 3
     κs = (κ₁, (κ₂, (κ₃, tt)))
@@ -156,22 +146,10 @@ module _ (L : Listing) (P : Plain) {T : Type 0} (told : P .row .Denot → T) (co
             rw (as-many, words-are) (written-back (L .words) (L .of) (out n .entries) (lists .back n)
             (take j (blanks L)) (without j (blanks L)))
 
-        -- ---- the end
-        exits : (ms : List (R .row .Denot)) → length ms ≡ n → ms ≡ written (map (L .of) (take i all)) (xe .now)
-            → ent 𝓤 (⋆ 𝓤 H A (‵ (flft κ₃ q₃) ∷ ‵ (finally (R .row) (xe .name) ms)
-            ∷ Gone 𝓤 κ₁ κ₂ q₁ q₂ xs sh x y (s .zs) (s .l₃) (s .l₄)))
-            (Post (P .val (s .answer)))
-        exits ms long h =
-            qed W (‵ (flft κ₃ q₃) ∷ ‵ (finally (R .row) (xe .name) ms)
-            ∷ Gone 𝓤 κ₁ κ₂ q₁ q₂ xs sh x y (s .zs) (s .l₃) (s .l₄)) ∵
-            -- [the list's token; its last list; the second token; the store's; of the fourth, the third, the store]
-            nothing ! $ move ! (2 ∷ 0 ∷ []) $ fjoin ! $ move ! (4 ∷ 0 ∷ []) $ fjoin ! $ move ! (4 ∷ 0 ∷ []) $ fjoin ! $
-            nothing ! $ fjoin ! $ move ! (4 ∷ 0 ∷ []) $ fjoin ! $
-            nothing ! $ move ! (2 ∷ 0 ∷ []) $ join ! $ move ! (2 ∷ 0 ∷ []) $ join ! $ move ! (2 ∷ 0 ∷ []) $ join ! $
-            by ! (ends Listed 𝓤 H A κs qs a W (s .answer) (s .is) (s .zs, (tt, (s .l₃, (s .l₄, (ms, tt)))))
-            (tt, (tt, (tt, (tt, (long, tt)))))
-            (did-done L P told κ₂ _ _ _ _ sh y (out n) said (xe .now) ms did
-            (h ∙ ap (λ es. written es (xe .now)) entries-are)))
+        done : (ms : List (R .row .Denot)) → ms ≡ written (map (L .of) (take i all)) (xe .now)
+            → Done L P told sh κ₂ y (xe .now) (out n) (s .answer) (s .zs) said ms
+        done ms h = did-done L P told κ₂ _ _ _ _ sh y (out n) said (xe .now) ms did
+            (h ∙ ap (λ es. written es (xe .now)) entries-are)
 
     -- ---- the walk
     module _ (C : Calls 𝓤 H) (Λ : Loops 𝓤 H) (fm : FmC 𝓤 H (W .laws) C) (least callee counter filler : Name)
@@ -207,25 +185,22 @@ module _ (L : Listing) (P : Plain) {T : Type 0} (told : P .row .Denot → T) (co
           writes =
               relends ! 8 5 18 refl refl refl (tt, tt) refl refl refl (sliced (fits₃ .0)) $
               points ! 8 6 20 refl (tt, tt) refl (L .most .reads !) refl (sliced (L .fits .0)) $
-              computes (P ∷ []) word (λ a r. (r ≡ count (told (a .0))) ∷ []) ! fm known₂ (s .answer, tt) (s .is, tt)
-              (and-then ! (reads ! 17 refl) (no-more !)) (λ i i-is counted.
+              calls (Counts P (λ r. count (told r))) ! fm known₂ tt tt (s .answer, tt) (s .is, tt) tt
+              (copied ! 17 refl (no-more !)) (λ i _ i-is counted.
               land ! (from ! (stop !)) (store-in ! 18 (held !) (word .typed 𝓤 H A W i _ i-is)) $
               move ! (0 ∷ 6 ∷ 7 ∷ []) $
               rewrite ! 29 (λ (c : ℕ). cellAt 𝓤 H En 21 (full (sliceVal (l, 0) c))) (sym (all-long j room-is s)) refl $
               lends-all (Entry (L .wide)) l ! tt (named 1) words (subst (Room (Entry (L .wide)))
               (sym (all-long j room-is s)) (L .fits)) (λ ν δ.
               -- [what is lent; its token; the lender's part; the list; its token; what is left of the three; …]
-              nothing ! $ has word ! i i-is $ fjoin ! $ move ! (1 ∷ 0 ∷ []) $ fjoin ! $ move ! (3 ∷ 0 ∷ []) $ fjoin ! $
-              nothing ! $ move ! (2 ∷ 0 ∷ []) $ join ! $ move ! (3 ∷ 0 ∷ []) $ join ! $
+              move ! (4 ∷ 1 ∷ 3 ∷ 0 ∷ []) $
               calls (Fills R (L .wide) (L .of)) ! fm known₃ (κ₃, (ν ∷ [], tt)) (q₃, (fullShare, tt))
-              (xe, (slot (Entry (L .wide)) l δ words, (i, tt))) (
+              (xe, (slot (Entry (L .wide)) l δ words, (i, tt))) (i-is, tt) (
                 omega (arith, few j room-is s i counted),
                 rw (all-long j room-is s) (omega (arith, few j room-is s i counted)),
-              ) (and-then ! (reads ! 26 refl) (and-then ! (reads ! 28 refl) (and-then ! (reads ! 17 refl) (no-more !))))
-              (λ u zs u-is h. fsplit ! $ fsplit ! $ move ! (1 ∷ []) $ feqL ! (λ long.
-              -- [the list's last list; the rest; the tokens; the lender's part]
-              move ! (1 ∷ []) $ drop ! $ move ! (1 ∷ []) $ split ! $ move ! (1 ∷ []) $ split ! $ move ! (0 ∷ 4 ∷ []) $
-              all-back (Entry (L .wide)) l ! tt words $ move ! (1 ∷ []) $ drop ! $
+              ) (copied ! 26 refl (copied ! 28 refl (copied ! 17 refl (no-more !)))) (λ u zs u-is h.
+              -- [the list's token; the words'; the last list; nothing of the words; what is kept; …]
+              move ! (3 ∷ []) $ drop ! $ move ! (1 ∷ 3 ∷ []) $ all-back (Entry (L .wide)) l ! tt words $
               -- [the words; the list's token; its last list; what is left of the three; the locals (8)]
               land ! (from ! (stop !)) (sets ! 25 refl (unit .typed 𝓤 H A W u _ u-is)) $
               assigns ! (of-opd ! (reads ! 16 refl)) (from ! (stop !))
@@ -233,7 +208,9 @@ module _ (L : Listing) (P : Plain) {T : Type 0} (told : P .row .Denot → T) (co
               use1 W (‵ (froom (tyArray (tyArray (tyInt w64) (L .wide)) m) l 0))
               (row-room 𝓤 H A W (Entry (L .wide)) m l words (all-long j room-is s)) $ puts ! 13 _ refl $
               leaves ! 7 (got (full (P .val (s .answer))) empty i (full _ ∷ full _ ∷ full _ ∷ full _ ∷ full _
-              ∷ [])) refl tt refl $ by ! (exits j room-is s i counted (zs .0) long h)))))
+              ∷ [])) refl tt refl $ move ! (2 ∷ 3 ∷ 0 ∷ 4 ∷ 5 ∷ 6 ∷ 1 ∷ []) $
+              by ! (ends Listed 𝓤 H A κs qs a W (s .answer) (s .is) (s .zs, (tt, (s .l₃, (s .l₄, (zs .0, tt)))))
+              (done j room-is s i counted (zs .0) h)))))
 
         begins : Is (third sh .row κ₂) x (third sh .val κ₂ x ∷ []) → Is (fourth sh .row κ₂) y (fourth sh .val κ₂ y ∷ [])
             → Sq W (Owned 𝓤 κ₁ κ₂ q₁ q₂ xs sh x y ++ ‵ Records ∷ ‵ (flft κ₃ q₃)
@@ -246,32 +223,14 @@ module _ (L : Listing) (P : Plain) {T : Type 0} (told : P .row .Denot → T) (co
             assigns ! (rep ! m (reads ! 17 refl)) (from ! (stop !)) (sets ! 14 refl all-typed) $ takes ! 14 refl $
             use2 W (‵ (row (Entry (L .wide)) fullShare (blanks L) l 0))
             (to-row 𝓤 H A W (Entry (L .wide)) m l tt (blanks L) (blankVal (L .wide) m)) $
-            assigns ! (of-opd ! (load ! (from ! (fld ! refl (stop !))) (look-in ! 13 (sub ! 1 refl (held !)))))
-            (from ! (stop !)) (sets ! 18 refl (tt, record { fits = fits₃ .0 })) $
-            computes (word ∷ word ∷ []) word (λ a r. (r ≡ min (a .0) (a .1 .0)) ∷ []) ! fm known₀ (n, (m, tt))
-            ((refl, fits₃ .0), ((refl, L .fits .0), tt))
-            (and-then ! (reads ! 19 refl) (and-then ! (L .most .reads !) (no-more !))) (λ j j-is room-is.
+            assigns ! (of-opd ! (second-of ! 13 refl refl)) (from ! (stop !))
+            (sets ! 18 refl (tt, record { fits = fits₃ .0 })) $
+            calls Least ! fm known₀ tt tt (n, (m, tt)) ((refl, fits₃ .0), ((refl, L .fits .0), tt)) tt
+            (copied ! 19 refl (and-then ! (L .most .reads !) (no-more !))) (λ j _ j-is room-is.
             land ! (from ! (stop !)) (sets ! 15 refl (word .typed 𝓤 H A W j _ j-is)) $
             evaluates L P told 𝓤 H A W κ₁ κ₂ q₁ q₂ xs settings settings-is j (omega (arith, room-is)) C Λ fm callee
             (fills-list counter filler) (atRet En Post) fits₁ (‵ Records) (‵ (flft κ₃ q₃)) s₃ (zeros (L .wide))
             (vint w64 n) sh outcome x y bs x-is y-is known₁ (writes j room-is)))
-
-      walk : Is (third sh .row κ₂) x (third sh .val κ₂ x ∷ []) → Is (fourth sh .row κ₂) y (fourth sh .val κ₂ y ∷ [])
-          → Sq W ((‵ (flft κ₁ q₁) ⊛ ‵ (flft κ₂ q₂) ⊛ ‵ (flft κ₃ q₃) ⊛ ‵ ftrue) ∷ ‵ (contracts.Owned Listed κs a) ∷ [])
-          (prop (WpFn 𝓤 H C Λ (code least callee counter filler) args Post))
-      walk x-is y-is =
-          split ! $ move ! (1 ∷ []) $ split ! $ move ! (1 ∷ []) $ split ! $
-          -- [the list's token; true; the second; the store's; what the parameters own]
-          move ! (4 ∷ []) $ fsplit ! $ move ! (1 ∷ []) $ fsplit ! $ drop ! $ fsplit ! $ move ! (1 ∷ []) $ fsplit ! $
-          move ! (1 ∷ []) $ fsplit ! $
-          -- [the list; true; the two; the store; the list's token; true; the second; the store's]
-          keep ! (4 ∷ 8 ∷ 3 ∷ 2 ∷ 7 ∷ 0 ∷ 5 ∷ []) $
-          let t₂ : Typed (SettingsOf .mir) (SettingsOf .val settings) =
-          SettingsOf .typed 𝓤 H A W settings _ settings-is in
-          let t₃ : Typed (third sh .mir) (third sh .val κ₂ x) = third sh .typed 𝓤 H A W κ₂ x x-is in
-          let t₄ : Typed (fourth sh .mir) (fourth sh .val κ₂ y) = fourth sh .typed 𝓤 H A W κ₂ y y-is in
-          enters ! C Λ (code least callee counter filler) args
-          (sliced (fits₁ .0), (t₂, (t₃, (t₄, (sliced (fits₃ .0), tt))))) (λ bs. begins bs x-is y-is)
 
   -- ---- such a function is proved, with its callees as they are known
   module _ (lists : (κ : Lft) (settings : Settings) (x : third sh .row κ .Denot) (y : fourth sh .row κ .Denot)
@@ -290,10 +249,25 @@ module _ (L : Listing) (P : Plain) {T : Type 0} (told : P .row .Denot → T) (co
     proved 𝓤 H 𝓜 𝓖 𝓡 γ name closed e₀ e₁ e₂ e₃ =
         let W : Given 𝓤 H (𝓖 .A) = givenOf 𝓤 H 𝓜 𝓖 in
         contracts.proved Listed 𝓤 H 𝓜 𝓖 𝓡 whole γ name closed (λ 𝓣 known κs qs a are ok.
-        walk 𝓤 H (𝓖 .A) W (κs .0) (κs .1 .0) (κs .1 .1 .0) (qs .0) (qs .1 .0) (qs .1 .1 .0) (a .0) (a .1 .0) (a .1 .1 .0)
+        let x-is = are .1 .1 .0 in
+        let y-is = are .1 .1 .1 .0 in
+        move ! (0 ∷ 1 ∷ 3 ∷ 4 ∷ 5 ∷ 6 ∷ 2 ∷ []) $ enters ! (𝓣 .C) (𝓣 .Λ) whole _ (
+          sliced (are .0 .0 .1 .0),
+          (
+            SettingsOf .typed 𝓤 H (𝓖 .A) W (a .1 .0) _ (are .1 .0),
+            (
+              third sh .typed 𝓤 H (𝓖 .A) W (κs .1 .0) (a .1 .1 .0) x-is,
+              (
+                fourth sh .typed 𝓤 H (𝓖 .A) W (κs .1 .0) (a .1 .1 .1 .0) y-is,
+                (sliced (are .1 .1 .1 .1 .0 .0 .1 .0), tt),
+              ),
+            ),
+          ),
+        ) (λ bs.
+        begins 𝓤 H (𝓖 .A) W (κs .0) (κs .1 .0) (κs .1 .1 .0) (qs .0) (qs .1 .0) (qs .1 .1 .0) (a .0) (a .1 .0)
+        (a .1 .1 .0)
         (a .1 .1 .1 .0) (a .1 .1 .1 .1 .0) (are .1 .0)
         (lists (κs .1 .0) (a .1 .0) (a .1 .1 .0) (a .1 .1 .1 .0) (a .0 .now)) (𝓣 .C) (𝓣 .Λ) (fmOf 𝓤 H (W .laws) 𝓣)
         (least .name) (callee .name) (counter .name) (filler .name) (known Least least e₀)
         (known (Evaluates L P told sh outcome) callee e₁) (known (Counts P (λ r. count (told r))) counter e₂)
-        (known (Fills R (L .wide) (L .of)) filler e₃) (are .0 .0 .1) (are .1 .1 .1 .1 .0 .0 .1) (are .1 .1 .0)
-        (are .1 .1 .1 .0))
+        (known (Fills R (L .wide) (L .of)) filler e₃) (are .0 .0 .1) (are .1 .1 .1 .1 .0 .0 .1) bs x-is y-is))

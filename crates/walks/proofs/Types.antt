@@ -4,99 +4,72 @@ use mathlib.Core.Path.{refl}
 use denote.Struct.Laws.{owed}
 use Rattle.book.specs.declared.Admission.{Admission}
 use Rattle.book.specs.declared.Cleared.{Cleared}
-use Rattle.book.proofs.Admission as admission
-use Rattle.book.proofs.Admission.Laws as admission′
-use Rattle.book.proofs.AdmissionAnswer as admitted
-use Rattle.book.proofs.AdmissionAnswer.Laws as admitted′
-use Rattle.book.proofs.Cleared as cleared
-use Rattle.book.proofs.Cleared.Laws as cleared′
-use Rattle.book.proofs.LastPrice as last
-use Rattle.book.proofs.LastPrice.Laws as last′
-use Rattle.book.proofs.PrintPath as path
-use Rattle.book.proofs.PrintPath.Laws as path′
-use Rattle.book.proofs.Moved as moved
-use Rattle.book.proofs.Moved.Laws as moved′
-use Rattle.book.proofs.PrintSegment as prints
-use Rattle.book.proofs.PrintSegment.Laws as prints′
-use Rattle.book.proofs.Settings as settings
-use Rattle.book.proofs.Settings.Laws as settings′
-use Rattle.book.proofs.Elected as elected
-use Rattle.book.proofs.Elected.Laws as elected′
-use Rattle.book.proofs.EvaluationAnswer as evaluated
-use Rattle.book.proofs.EvaluationAnswer.Laws as evaluated′
-use Rattle.book.proofs.PassAnswer as passed
-use Rattle.book.proofs.PassAnswer.Laws as passed′
-use Rattle.pricelevel.proofs.Id as id
-use Rattle.pricelevel.proofs.Id.Laws as id′
-use Rattle.pricelevel.proofs.Price as price
-use Rattle.pricelevel.proofs.Price.Laws as price′
-use Rattle.pricelevel.proofs.Quantity as quantity
-use Rattle.pricelevel.proofs.Quantity.Laws as quantity′
 use Rattle.print_path.specs.declared.TakenSegment.{TakenSegment}
-use Rattle.print_path.proofs.NextSegment as next
-use Rattle.print_path.proofs.NextSegment.Laws as next′
-use Rattle.print_path.proofs.TakenSegment as taken
-use Rattle.print_path.proofs.TakenSegment.Laws as taken′
-use Rattle.stop_terms.proofs.StopTerms as terms
-use Rattle.stop_terms.proofs.StopTerms.Laws as terms′
-use Rattle.book.proofs.LayoutAnswer as layout
-use Rattle.book.proofs.LayoutAnswer.Laws as layout′
+use Rattle.book.proofs as book
+use Rattle.pricelevel.proofs as level
+use Rattle.print_path.proofs as path
+use Rattle.stop_terms.proofs as terms
 use Rattle.walks.proofs.ThinStores.{Storable}
 use Rattle.walks.proofs.Plain.{Plain, Stands, struct, enum}
 
 abbrev pub PathOf : Plain
-PathOf = struct path.the-type path′.the-laws path′.the-plain (λ d l. refl)
+PathOf = struct book.PrintPath.the-type book.PrintPath.Laws.the-laws book.PrintPath.Laws.the-plain (λ d l. refl)
 
 abbrev pub LastOf : Plain
-LastOf = enum last.the-type last′.the-laws last′.the-plain tt (λ d l. refl)
+LastOf = enum book.LastPrice.the-type book.LastPrice.Laws.the-laws book.LastPrice.Laws.the-plain tt (λ d l. refl)
 
 abbrev pub PriceOf : Plain
-PriceOf = struct price.the-type price′.the-laws price′.the-plain (λ d l. refl)
+PriceOf = struct level.Price.the-type level.Price.Laws.the-laws level.Price.Laws.the-plain (λ d l. refl)
 
 abbrev pub IdOf : Plain
-IdOf = struct id.the-type id′.the-laws id′.the-plain (λ d l. refl)
+IdOf = struct level.Id.the-type level.Id.Laws.the-laws level.Id.Laws.the-plain (λ d l. refl)
 
 abbrev pub TermsOf : Plain
-TermsOf = struct terms.the-type terms′.the-laws terms′.the-plain (λ d l. refl)
+TermsOf = struct terms.StopTerms.the-type terms.StopTerms.Laws.the-laws terms.StopTerms.Laws.the-plain (λ d l. refl)
 
 abbrev pub QuantityOf : Plain
-QuantityOf = struct quantity.the-type quantity′.the-laws quantity′.the-plain (λ d l. refl)
+QuantityOf = struct level.Quantity.the-type level.Quantity.Laws.the-laws level.Quantity.Laws.the-plain (λ d l. refl)
 
 abbrev pub NextOf : Plain
-NextOf = enum next.the-type next′.the-laws next′.the-plain tt (λ d l. refl)
+NextOf = enum path.NextSegment.the-type path.NextSegment.Laws.the-laws path.NextSegment.Laws.the-plain tt (λ d l. refl)
 
 abbrev pub TakenOf : Plain
-TakenOf = struct taken.the-type taken′.the-laws taken′.the-plain (λ d l. refl)
+TakenOf = struct path.TakenSegment.the-type path.TakenSegment.Laws.the-laws
+    path.TakenSegment.Laws.the-plain (λ d l. refl)
 
 abbrev pub LayoutOf : Plain
-LayoutOf = enum layout.the-type layout′.the-laws layout′.the-plain tt (λ d l. refl)
+LayoutOf = enum book.LayoutAnswer.the-type book.LayoutAnswer.Laws.the-laws
+    book.LayoutAnswer.Laws.the-plain tt (λ d l. refl)
 
 abbrev pub ClearedOf : Plain
-ClearedOf = struct cleared.the-type cleared′.the-laws cleared′.the-plain (λ d l. refl)
+ClearedOf = struct book.Cleared.the-type book.Cleared.Laws.the-laws book.Cleared.Laws.the-plain (λ d l. refl)
 
 abbrev pub AdmittedOf : Plain
-AdmittedOf = enum admitted.the-type admitted′.the-laws admitted′.the-plain tt (λ d l. refl)
+AdmittedOf = enum book.AdmissionAnswer.the-type book.AdmissionAnswer.Laws.the-laws
+    book.AdmissionAnswer.Laws.the-plain tt (λ d l. refl)
 
 abbrev pub AdmissionOf : Plain
-AdmissionOf = struct admission.the-type admission′.the-laws admission′.the-plain (λ d l. refl)
+AdmissionOf = struct book.Admission.the-type book.Admission.Laws.the-laws book.Admission.Laws.the-plain (λ d l. refl)
 
 abbrev pub SettingsOf : Plain
-SettingsOf = struct settings.the-type settings′.the-laws settings′.the-plain (λ d l. refl)
+SettingsOf = struct book.Settings.the-type book.Settings.Laws.the-laws book.Settings.Laws.the-plain (λ d l. refl)
 
 abbrev pub ElectedOf : Plain
-ElectedOf = struct elected.the-type elected′.the-laws elected′.the-plain (λ d l. refl)
+ElectedOf = struct book.Elected.the-type book.Elected.Laws.the-laws book.Elected.Laws.the-plain (λ d l. refl)
 
 abbrev pub EvaluatedOf : Plain
-EvaluatedOf = enum evaluated.the-type evaluated′.the-laws evaluated′.the-plain tt (λ d l. refl)
+EvaluatedOf = enum book.EvaluationAnswer.the-type book.EvaluationAnswer.Laws.the-laws
+    book.EvaluationAnswer.Laws.the-plain tt (λ d l. refl)
 
 abbrev pub MovedOf : Plain
-MovedOf = struct moved.the-type moved′.the-laws moved′.the-plain (λ d l. refl)
+MovedOf = struct book.Moved.the-type book.Moved.Laws.the-laws book.Moved.Laws.the-plain (λ d l. refl)
 
 abbrev pub PrintsOf : Plain
-PrintsOf = struct prints.the-type prints′.the-laws prints′.the-plain (λ d l. refl)
+PrintsOf = struct book.PrintSegment.the-type book.PrintSegment.Laws.the-laws
+    book.PrintSegment.Laws.the-plain (λ d l. refl)
 
 abbrev pub PassedOf : Plain
-PassedOf = enum passed.the-type passed′.the-laws passed′.the-plain tt (λ d l. refl)
+PassedOf = enum book.PassAnswer.the-type book.PassAnswer.Laws.the-laws book.PassAnswer.Laws.the-plain tt (λ d l. refl)
 
 -- ---- records that are stored in a list
 pub elected-fit : Storable ElectedOf
@@ -107,14 +80,16 @@ moved-fit = record { one = refl; small = tt; last = λ d. tt }
 
 -- ---- the fields of an answer with the path after it
 pub taken-parts : (r : TakenSegment) → Stands TakenOf r → Stands NextOf (r .segment) × Stands PathOf (r .path)
-taken-parts r is = (owed taken.the-type taken′.the-laws r _ is .0, owed taken.the-type taken′.the-laws r _ is .1 .0)
+taken-parts r is =
+    let parts = owed path.TakenSegment.the-type path.TakenSegment.Laws.the-laws r _ is in
+    (parts .0, parts .1 .0)
 
 pub cleared-parts : (r : Cleared) → Stands ClearedOf r → Stands LayoutOf (r .answer) × Stands PathOf (r .path)
-cleared-parts r is = (
-  owed cleared.the-type cleared′.the-laws r _ is .0,
-  owed cleared.the-type cleared′.the-laws r _ is .1 .0,
-)
+cleared-parts r is =
+    let parts = owed book.Cleared.the-type book.Cleared.Laws.the-laws r _ is in
+    (parts .0, parts .1 .0)
 
 pub admission-parts : (r : Admission) → Stands AdmissionOf r → Stands AdmittedOf (r .answer) × Stands PathOf (r .path)
 admission-parts r is =
-    (owed admission.the-type admission′.the-laws r _ is .0, owed admission.the-type admission′.the-laws r _ is .1 .0)
+    let parts = owed book.Admission.the-type book.Admission.Laws.the-laws r _ is in
+    (parts .0, parts .1 .0)

@@ -1,31 +1,25 @@
 -- An evaluation that takes words in the place of a list of records: of a store, settings, two parameters that are
 -- handed on to it, and the words. Its contract, and its call by a function that lends it the first entries of a local
 -- array and hands on what it was itself lent.
-use mathlib.Core.Path.{_≡_, refl, sym, _∙_}
-use Prim.Native.Nat.{ℕ, suc, _≤_, _<_, _^_, min}
 use native.Mathlib.Omega.{arith}
-use mathlib.Core.List.{[], _∷_, _++_, List, map}
-use lib.ListN.{length, take, drop as without, length-take}
-use mir.Syntax.{place}
-use Rattle.walks.proofs.WalkSteps.{Lfts, Shares, Outs, URA, fullShare, Name, Ty, Local, Place, Body, Operand}
-use Rattle.walks.proofs.WalkSteps.{named, erased, mut, imm, w64, tyInt, tyUnit, tyRef, tyArray, local}
-use Rattle.walks.proofs.WalkSteps.{valueLocal, memorySlot, field, deref, copy, addrOf, aggregate, assign, seq}
-use Rattle.walks.proofs.WalkSteps.{call, Val, vint, Lft, Share, GName, flft, Heap, Env, Calls, Loops, Atoms}
-use Rattle.walks.proofs.WalkSteps.{Given, Item, Post, Go, Sq, runs, lands, ‵, raw, _$_, !, move, drop, split}
-use Rattle.walks.proofs.WalkSteps.{join, fsplit, fjoin, feqL, Opds, and-then, no-more, land, from, stop, FmC}
+use Rattle.walks.proofs.WalkSteps.{_≡_, refl, sym, _∙_, ℕ, suc, _≤_, _<_, _^_, min, [], _∷_, _++_, List, map}
+use Rattle.walks.proofs.WalkSteps.{length, take, without, length-take, place, Lfts, Shares, Outs, URA}
+use Rattle.walks.proofs.WalkSteps.{fullShare, Name, Ty, Local, Place, Body, Operand, named, erased, mut, imm}
+use Rattle.walks.proofs.WalkSteps.{w64, tyInt, tyUnit, tyRef, tyArray, local, memorySlot, field, deref, copy}
+use Rattle.walks.proofs.WalkSteps.{addrOf, aggregate, assign, seq, call, Val, vint, Lft, Share, GName, flft}
+use Rattle.walks.proofs.WalkSteps.{Heap, Env, Calls, Loops, Atoms, Given, Item, Post, Go, Sq, runs, lands, ‵}
+use Rattle.walks.proofs.WalkSteps.{raw, _$_, !, move, fsplit, feqL, Opds, no-more, land, from, stop, FmC}
 use Rattle.walks.proofs.WalkSteps.{RattleType, pointee, Is, Tells, u64, RefT, sliceTy, sliceVal, MutSlice}
 use Rattle.walks.proofs.WalkSteps.{ShrSlice, Room, mut-slice-tells, shr-slice-tells, row, yes, Seen, Last}
-use Rattle.walks.proofs.WalkSteps.{left, see, plain, mutSliceOf, nothing, Triple, rewrite, Denots, flat}
-use Rattle.walks.proofs.WalkSteps.{slice-vals, typesAt}
+use Rattle.walks.proofs.WalkSteps.{left, see, plain, Triple, rewrite, Denots, flat, typesAt}
 use Rattle.book.specs.Calls.{written}
 use Rattle.book.specs.declared.Settings.{Settings}
 use Rattle.walks.proofs.Buffers.{Entry, slot, Kept, blank, blank-length, room-below, lends-part, part-back}
-use Rattle.walks.proofs.Cells.{sliced, Typed, Blocks, envOf, cells, cellAt, reads, sets}
+use Rattle.walks.proofs.Cells.{by-value, copied, Cell, room as empty, full, away, sliced, Typed, Blocks, envOf}
+use Rattle.walks.proofs.Cells.{cells, cellAt, reads, sets}
 use Rattle.walks.proofs.Constants.{Most}
 use Rattle.walks.proofs.Contracts.{Form, Keeps, Asked, rows, spelt, calls}
-use Rattle.walks.proofs.Frame.{Cell, room as empty, full, away}
 use Rattle.walks.proofs.Lending.{relends, points}
-use Rattle.walks.proofs.Lent.{has}
 use Rattle.walks.proofs.Params.{Param, value, handed, lent, slots, kepts}
 use Rattle.walks.proofs.Plain.{Plain, Stands}
 use Rattle.walks.proofs.Types.{SettingsOf}
@@ -125,14 +119,11 @@ Other (paired X S σ) = S .Denot
 
 -- the parameters up to the list: store and settings, and the two
 abbrev at-second : Handed → Param 3
-at-second X = handed 3 (plain (λ κs. X .row (κs .1 .0))) (λ κs d. X .val (κs .1 .0) d ∷ []) (λ κs. X .tells (κs .1 .0))
-
-abbrev store : Param 3
-store = handed 3 (mutSliceOf (0 ∷ []) tt (plain (λ κs. u64))) (λ κs. slice-vals)
-    (λ κs. mut-slice-tells (named 0) (κs .0) u64)
+at-second X = handed (plain (λ κs. X .row (κs .1 .0))) (λ κs d. X .val (κs .1 .0) d ∷ []) (λ κs. X .tells (κs .1 .0))
 
 abbrev pub with-list : Shape → Param 3 → List (Param 3)
-with-list sh list = store ∷ value 3 SettingsOf ∷ at-second (third sh) ∷ at-second (fourth sh) ∷ list ∷ []
+with-list sh list =
+    lent 3 0 tt u64 ∷ value SettingsOf ∷ at-second (third sh) ∷ at-second (fourth sh) ∷ list ∷ []
 
 -- ---- the code: a slice is lent again, the first entries of an array are lent, and the evaluation is called
 abbrev pub again : ℕ → ℕ → Ty → Body → Body
@@ -180,28 +171,12 @@ module _ (L : Listing) (P : Plain) where
 
   -- the locals of the function that lends the array, which is the sixth
   abbrev pub locals : Shape → List Local
-  locals sh = local (P .mir) valueLocal
-      ∷ local (sliceTy (tyRef (named 0) mut (tyInt w64))) valueLocal
-      ∷ local (SettingsOf .mir) valueLocal
-      ∷ local (third sh .mir) valueLocal
-      ∷ local (fourth sh .mir) valueLocal
-      ∷ local (sliceTy (tyRef (named 2) mut record′)) valueLocal
-      ∷ local (tyArray words m) memorySlot
-      ∷ local (tyInt w64) valueLocal
-      ∷ local (P .mir) valueLocal
-      ∷ local words valueLocal
-      ∷ local (tyInt w64) valueLocal
-      ∷ local (tyRef erased mut (tyInt w64)) valueLocal
-      ∷ local (sliceTy (tyRef erased mut (tyInt w64))) valueLocal
-      ∷ local (lent₁ sh .0) valueLocal
-      ∷ local (lent₁ sh .1) valueLocal
-      ∷ local (lent₂ sh .0) valueLocal
-      ∷ local (lent₂ sh .1) valueLocal
-      ∷ local tyUnit valueLocal
-      ∷ local (tyRef erased mut record′) valueLocal
-      ∷ local (sliceTy (tyRef erased mut record′)) valueLocal
-      ∷ local (tyRef erased imm (tyArray words m)) valueLocal
-      ∷ local (sliceTy (tyRef erased imm words)) valueLocal ∷ []
+  locals sh = by-value (P .mir ∷ sliceTy (tyRef (named 0) mut (tyInt w64)) ∷ SettingsOf .mir ∷ third sh .mir
+      ∷ fourth sh .mir ∷ sliceTy (tyRef (named 2) mut record′) ∷ [])
+      ++ local (tyArray words m) memorySlot ∷ by-value (tyInt w64 ∷ P .mir ∷ words ∷ tyInt w64
+      ∷ tyRef erased mut (tyInt w64) ∷ sliceTy (tyRef erased mut (tyInt w64)) ∷ lent₁ sh .0 ∷ lent₁ sh .1 ∷ lent₂ sh .0
+      ∷ lent₂ sh .1 ∷ tyUnit ∷ tyRef erased mut record′ ∷ sliceTy (tyRef erased mut record′)
+      ∷ tyRef erased imm (tyArray words m) ∷ sliceTy (tyRef erased imm words) ∷ [])
 
   abbrev pub block : (sh : Shape) → Blocks (locals sh) → ℕ
   block sh bs = bs .1 .1 .1 .1 .1 .1 .0
@@ -210,13 +185,14 @@ module _ (L : Listing) (P : Plain) where
 module _ {M : Type 1} (𝓤 : URA M) (κ₁ κ₂ : Lft) (q₁ q₂ : Share) (xs : RefT (List ℕ)) (sh : Shape)
     (x : third sh .row κ₂ .Denot) (y : fourth sh .row κ₂ .Denot) where
   abbrev pub Owned : List (Item 𝓤)
-  Owned = ‵ (MutSlice (named 0) κ₁ u64 .own xs (sliceVal (xs .ptr) (length (xs .now)) ∷ [])) ∷ ‵ (flft κ₁ q₁)
+  Owned = ‵ (flft κ₁ q₁) ∷ ‵ (flft κ₂ q₂)
+      ∷ ‵ (MutSlice (named 0) κ₁ u64 .own xs (sliceVal (xs .ptr) (length (xs .now)) ∷ []))
       ∷ ‵ (third sh .row κ₂ .own x (third sh .val κ₂ x ∷ [])) ∷ ‵ (fourth sh .row κ₂ .own y (fourth sh .val κ₂ y ∷ []))
-      ∷ ‵ (flft κ₂ q₂) ∷ []
+      ∷ []
 
   abbrev pub Gone : List ℕ → Last (third sh .row κ₂ .exit yes) x → Last (fourth sh .row κ₂ .exit yes) y → List (Item 𝓤)
-  Gone zs l₃ l₄ = ‵ (flft κ₂ q₂) ∷ ‵ (flft κ₁ q₁) ∷ ‵ (left (fourth sh .row κ₂ .exit yes) y l₄)
-      ∷ ‵ (left (third sh .row κ₂ .exit yes) x l₃) ∷ ‵ (left (MutSlice (named 0) κ₁ u64 .exit yes) xs zs) ∷ []
+  Gone zs l₃ l₄ = ‵ (flft κ₁ q₁) ∷ ‵ (flft κ₂ q₂) ∷ ‵ (left (MutSlice (named 0) κ₁ u64 .exit yes) xs zs)
+      ∷ ‵ (left (third sh .row κ₂ .exit yes) x l₃) ∷ ‵ (left (fourth sh .row κ₂ .exit yes) y l₄) ∷ []
 
 -- ---- the contract
 module _ (L : Listing) (P : Plain) {T : Type 0} (told : P .row .Denot → T) where
@@ -264,7 +240,8 @@ module _ (L : Listing) (P : Plain) {T : Type 0} (told : P .row .Denot → T) whe
   -- it takes the words last, or before the other list
   abbrev taken : Shape → List (Param 3)
   taken (single t X) = with-list (single t X) (lent 3 2 tt (Entry (L .wide)))
-  taken (paired X S σ) = store ∷ value 3 SettingsOf ∷ value 3 X ∷ lent 3 1 tt (Entry (L .wide)) ∷ lent 3 2 tt S ∷ []
+  taken (paired X S σ) = lent 3 0 tt u64 ∷ value SettingsOf ∷ at-second (plainly X) ∷ lent 3 1 tt (Entry (L .wide))
+      ∷ lent 3 2 tt S ∷ []
 
   abbrev tells : (sh : Shape) → Outcomes sh → (κs : Lfts 3) → Denots (typesAt (slots 3 (taken sh)) κs) → P .row .Denot
       → Outs κs (slots 3 (taken sh)) (kepts 3 (taken sh)) → List (Type 0)
@@ -346,19 +323,14 @@ module _ (L : Listing) (P : Plain) {T : Type 0} (told : P .row .Denot → T) whe
           (runs C Λ E (seq (call callee ops d) b) q)
       is-called (single t X) outcome x y l E ops d Γ known opds go =
           lends-part (Entry (L .wide)) l ! tt (named 2) j (blanks L) fits (λ ν δ.
-          -- [what is lent; its token; what is kept; the store; its token; the two; their token; …]
-          nothing ! $ move ! (1 ∷ 0 ∷ []) $ fjoin ! $ move ! (6 ∷ 0 ∷ []) $ fjoin ! $ move ! (5 ∷ 0 ∷ []) $ fjoin ! $
-          has SettingsOf ! settings settings-is $ fjoin ! $ move ! (3 ∷ 0 ∷ []) $ fjoin ! $
-          -- [what the arguments own; the words' token; what is kept; the store's token; the second; …]
-          nothing ! $ move ! (2 ∷ 0 ∷ []) $ join ! $ move ! (4 ∷ 0 ∷ []) $ join ! $ move ! (3 ∷ 0 ∷ []) $ join ! $
+          -- [what is lent; its token; what is kept; the two tokens; the store; the two; …]
+          move ! (3 ∷ 4 ∷ 1 ∷ 5 ∷ 6 ∷ 7 ∷ 0 ∷ []) $
           calls (Evaluates (single t X) outcome) ! fm known (for (single t X) ν) (sharing (single t X))
-          (on (single t X) outcome x y l ν δ) tt (opds ν δ) (λ r zs is e.
-          fsplit ! $ move ! (1 ∷ []) $ fsplit ! $ drop ! $ fsplit ! $ move ! (1 ∷ []) $ fsplit ! $ move ! (1 ∷ []) $
-          fsplit ! $ fsplit ! $ move ! (1 ∷ []) $ feqL ! (λ as-long. move ! (1 ∷ []) $ drop ! $
-          -- [the words' last; of the fourth, the third, the store; the tokens; what is kept; …]
-          move ! (4 ∷ []) $ split ! $ move ! (1 ∷ []) $ split ! $ move ! (1 ∷ []) $ split ! $ move ! (4 ∷ 0 ∷ 8 ∷ []) $
-          part-back (Entry (L .wide)) l ! tt j (blanks L) (zs .1 .1 .1 .1 .0) (as-long ∙ long) $ move ! (1 ∷ []) $
-          drop ! $ go (record {
+          (on (single t X) outcome x y l ν δ) (settings-is, tt) tt (opds ν δ) (λ r zs is e.
+          -- [the three tokens; the last of the store, of the two, of the words; what is kept; …]
+          move ! (6 ∷ []) $ fsplit ! $ move ! (1 ∷ []) $ feqL ! (λ as-long. move ! (0 ∷ 3 ∷ 7 ∷ []) $
+          part-back (Entry (L .wide)) l ! tt j (blanks L) (zs .1 .1 .1 .1 .0) (as-long ∙ long) $
+          go (record {
             answer = r;
             is = is;
             zs = zs .0;
@@ -370,16 +342,11 @@ module _ (L : Listing) (P : Plain) {T : Type 0} (told : P .row .Denot → T) whe
           }))))
       is-called (paired X S σ) outcome x y l E ops d Γ known opds go =
           lends-part (Entry (L .wide)) l ! tt (named 1) j (blanks L) fits (λ ν δ.
-          nothing ! $ move ! (7 ∷ 0 ∷ []) $ fjoin ! $ move ! (1 ∷ 0 ∷ []) $ fjoin ! $ move ! (5 ∷ 0 ∷ []) $ fjoin ! $
-          has SettingsOf ! settings settings-is $ fjoin ! $ move ! (3 ∷ 0 ∷ []) $ fjoin ! $
-          nothing ! $ move ! (5 ∷ 0 ∷ []) $ join ! $ move ! (2 ∷ 0 ∷ []) $ join ! $ move ! (3 ∷ 0 ∷ []) $ join ! $
+          move ! (3 ∷ 1 ∷ 4 ∷ 5 ∷ 6 ∷ 0 ∷ 7 ∷ []) $
           calls (Evaluates (paired X S σ) outcome) ! fm known (for (paired X S σ) ν) (sharing (paired X S σ))
-          (on (paired X S σ) outcome x y l ν δ) tt (opds ν δ) (λ r zs is e.
-          fsplit ! $ move ! (1 ∷ []) $ fsplit ! $ drop ! $ fsplit ! $ move ! (1 ∷ []) $ fsplit ! $
-          fsplit ! $ move ! (1 ∷ []) $ feqL ! (λ as-long. move ! (1 ∷ []) $ fsplit ! $ move ! (1 ∷ []) $ drop ! $
-          -- [the fourth's last; the words'; of the third, the store; the tokens; what is kept; …]
-          move ! (4 ∷ []) $ split ! $ move ! (1 ∷ []) $ split ! $ move ! (1 ∷ []) $ split ! $ move ! (5 ∷ 2 ∷ 8 ∷ []) $
-          part-back (Entry (L .wide)) l ! tt j (blanks L) (zs .1 .1 .1 .0) (as-long ∙ long) $ move ! (2 ∷ []) $ drop ! $
+          (on (paired X S σ) outcome x y l ν δ) (settings-is, tt) tt (opds ν δ) (λ r zs is e.
+          move ! (5 ∷ []) $ fsplit ! $ move ! (1 ∷ []) $ feqL ! (λ as-long. move ! (0 ∷ 2 ∷ 7 ∷ []) $
+          part-back (Entry (L .wide)) l ! tt j (blanks L) (zs .1 .1 .1 .0) (as-long ∙ long) $
           go (record {
             answer = r;
             is = is;
@@ -422,25 +389,22 @@ module _ (L : Listing) (P : Plain) {T : Type 0} (told : P .row .Denot → T) whe
             relends ! 8 4 13 refl refl refl (tt, tt) refl refl refl (sliced (y-is .0 .1 .0)) $
             points ! 8 6 15 refl (tt, tt) refl (reads ! 15 refl) refl (sliced j-fits) $
             rewrite ! 24 (lent-at (single first X) bs 16) (sym long) refl $
-            is-called (single first X) outcome x y _ _ _ _ _ known (λ ν δ. and-then ! (reads ! 16 refl)
-            (and-then ! (reads ! 6 refl) (and-then ! (reads ! 7 refl)
-            (and-then ! (reads ! 18 refl) (and-then ! (reads ! 20 refl) (no-more !)))))) (λ s.
+            is-called (single first X) outcome x y _ _ _ _ _ known (λ ν δ. copied ! 16 refl
+            (copied ! 6 refl (copied ! 7 refl (copied ! 18 refl (copied ! 20 refl (no-more !)))))) (λ s.
             land ! (from ! (stop !)) (sets ! 16 refl (P .typed 𝓤 H A W (s .answer) _ (s .is))) $ go s _ _ _ _ _ _)
         evaluates (single second X) outcome x y bs x-is y-is known go =
             relends ! 8 1 11 refl refl refl (tt, tt) refl refl refl (sliced (fits₁ .0)) $
             relends ! 8 3 13 refl refl refl (tt, tt) refl refl refl (sliced (x-is .0 .1 .0)) $
             points ! 8 6 15 refl (tt, tt) refl (reads ! 15 refl) refl (sliced j-fits) $
             rewrite ! 24 (lent-at (single second X) bs 16) (sym long) refl $
-            is-called (single second X) outcome x y _ _ _ _ _ known (λ ν δ. and-then ! (reads ! 16 refl)
-            (and-then ! (reads ! 6 refl) (and-then ! (reads ! 18 refl)
-            (and-then ! (reads ! 8 refl) (and-then ! (reads ! 20 refl) (no-more !)))))) (λ s.
+            is-called (single second X) outcome x y _ _ _ _ _ known (λ ν δ. copied ! 16 refl
+            (copied ! 6 refl (copied ! 18 refl (copied ! 8 refl (copied ! 20 refl (no-more !)))))) (λ s.
             land ! (from ! (stop !)) (sets ! 16 refl (P .typed 𝓤 H A W (s .answer) _ (s .is))) $ go s _ _ _ _ _ _)
         evaluates (paired X S σ) outcome x y bs x-is y-is known go =
             relends ! 8 1 11 refl refl refl (tt, tt) refl refl refl (sliced (fits₁ .0)) $
             points ! 8 6 13 refl (tt, tt) refl (reads ! 15 refl) refl (sliced j-fits) $
             rewrite ! 22 (lent-at (paired X S σ) bs 14) (sym long) refl $
             relends ! 8 4 15 refl refl refl (tt, tt) refl refl refl (sliced (y-is .0 .1 .0)) $
-            is-called (paired X S σ) outcome x y _ _ _ _ _ known (λ ν δ. and-then ! (reads ! 16 refl)
-            (and-then ! (reads ! 6 refl) (and-then ! (reads ! 7 refl)
-            (and-then ! (reads ! 18 refl) (and-then ! (reads ! 20 refl) (no-more !)))))) (λ s.
+            is-called (paired X S σ) outcome x y _ _ _ _ _ known (λ ν δ. copied ! 16 refl
+            (copied ! 6 refl (copied ! 7 refl (copied ! 18 refl (copied ! 20 refl (no-more !)))))) (λ s.
             land ! (from ! (stop !)) (sets ! 16 refl (P .typed 𝓤 H A W (s .answer) _ (s .is))) $ go s _ _ _ _ _ _)

@@ -4,23 +4,19 @@ use Rattle.evaluation.specs.Counts.{electedCount, movedCount, passCount}
 use Rattle.walks.proofs.Contracts.{Known}
 use Rattle.walks.proofs.ListCalls.{Least, Counts}
 use Rattle.walks.proofs.Types.{EvaluatedOf, PassedOf}
-use Rattle.word_rooms.proofs.least.Symbol as least-def
-use Rattle.word_rooms.proofs.least.Met as least-thm
-use Rattle.word_rooms.proofs.elected_count.Symbol as elected-def
-use Rattle.word_rooms.proofs.elected_count.Met as elected-thm
-use Rattle.word_rooms.proofs.moved_count.Symbol as moved-def
-use Rattle.word_rooms.proofs.moved_count.Met as moved-thm
-use Rattle.word_rooms.proofs.pass_count.Symbol as pass-def
-use Rattle.word_rooms.proofs.pass_count.Met as pass-thm
+use Rattle.word_rooms.proofs.least as least-fn
+use Rattle.word_rooms.proofs.elected_count as elected-fn
+use Rattle.word_rooms.proofs.moved_count as moved-fn
+use Rattle.word_rooms.proofs.pass_count as pass-fn
 
 abbrev pub least : Known Least
-least = record { name = least-def.name; routine = least-def.routine; met = least-thm.met }
+least = record { name = least-fn.Symbol.name; routine = least-fn.Symbol.routine; met = least-fn.Met.met }
 
 abbrev pub elected-count : Known (Counts EvaluatedOf (λ r. electedCount (toldCounts r)))
-elected-count = record { name = elected-def.name; routine = elected-def.routine; met = elected-thm.met }
+elected-count = record { name = elected-fn.Symbol.name; routine = elected-fn.Symbol.routine; met = elected-fn.Met.met }
 
 abbrev pub moved-count : Known (Counts EvaluatedOf (λ r. movedCount (toldCounts r)))
-moved-count = record { name = moved-def.name; routine = moved-def.routine; met = moved-thm.met }
+moved-count = record { name = moved-fn.Symbol.name; routine = moved-fn.Symbol.routine; met = moved-fn.Met.met }
 
 abbrev pub pass-count : Known (Counts PassedOf (λ r. passCount (toldPass r)))
-pass-count = record { name = pass-def.name; routine = pass-def.routine; met = pass-thm.met }
+pass-count = record { name = pass-fn.Symbol.name; routine = pass-fn.Symbol.routine; met = pass-fn.Met.met }

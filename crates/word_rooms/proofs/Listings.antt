@@ -1,8 +1,6 @@
 -- The two lists of records as the laws of lent lists take them, the entries of each read back from their words; and what
 -- is shown of a call that lists them.
-use Prim.Native.Nat.{ℕ, min}
-use mathlib.Core.Path.{_≡_, refl, ap, _∙_}
-use mathlib.Core.List.{List, [], _∷_, map}
+use Rattle.walks.proofs.WalkSteps.{ℕ, min, _≡_, refl, ap, _∙_, List, [], _∷_, map}
 use lib.Dec.{lit<}
 use Rattle.error.specs.Answer.{Answer}
 use Rattle.book.specs.Calls.{ListOutcome}
@@ -47,26 +45,26 @@ moves-read : (ms : List Moved) → map movedOf (map movedWords ms) ≡ ms
 moves-read [] = refl
 moves-read (m ∷ ms) = ap (_∷ map movedOf (map movedWords ms)) (moved-read m) ∙ ap (m ∷_) (moves-read ms)
 
--- a call that lists elected stops
-pub elects : {T B : Type 0} (count : T → ℕ) (call : ℕ → Left T Elected B)
-    → ((room : ℕ) → ListsElected (count (call room .told)) (call room .entries) room)
-    → ((room : ℕ) → call (min room mostRecords) ≡ call room) → Lists elected count call
-elects count call lists cut = record {
+-- a call that lists elected stops, its outcome told by `of`
+pub elects : {O T B : Type 0} (count : T → ℕ) (of : O → Left T Elected B) (call : ℕ → O)
+    → ((room : ℕ) → ListsElected (count (of (call room) .told)) (of (call room) .entries) room)
+    → ((room : ℕ) → call (min room mostRecords) ≡ call room) → Lists elected count (λ room. of (call room))
+elects count of call lists cut = record {
   counted = λ room. lists room .0 .counted;
   few = λ room. lists room .0 .few;
-  back = λ room. entries-read (call room .entries) (lists room .1);
-  cut = cut;
+  back = λ room. entries-read (of (call room) .entries) (lists room .1);
+  cut = λ room. ap of (cut room);
 }
 
 -- a call that lists moved ones
-pub shifts : {T B : Type 0} (count : T → ℕ) (call : ℕ → Left T Moved B)
-    → ((room : ℕ) → Listed (count (call room .told)) (call room .entries) room)
-    → ((room : ℕ) → call (min room mostMoves) ≡ call room) → Lists moved count call
-shifts count call lists cut = record {
+pub shifts : {O T B : Type 0} (count : T → ℕ) (of : O → Left T Moved B) (call : ℕ → O)
+    → ((room : ℕ) → Listed (count (of (call room) .told)) (of (call room) .entries) room)
+    → ((room : ℕ) → call (min room mostMoves) ≡ call room) → Lists moved count (λ room. of (call room))
+shifts count of call lists cut = record {
   counted = λ room. lists room .counted;
   few = λ room. lists room .few;
-  back = λ room. moves-read (call room .entries);
-  cut = cut;
+  back = λ room. moves-read (of (call room) .entries);
+  cut = λ room. ap of (cut room);
 }
 
 -- the outcome of a walk or a pass

@@ -1,48 +1,31 @@
 -- `run_listed` meets its contract: its code is that of an evaluation with a lent list, over `run_words`.
-use mathlib.Core.List.{List}
-use Prim.Native.Nat.{ℕ}
-use base.Fml.{Lft}
-use denote.Ref.{RefT}
-use Rattle.error.specs.Answer.{Answer}
-use Rattle.book.specs.declared.Elected.{Elected}
-use Rattle.book.specs.declared.PassCounts.{PassCounts}
-use Rattle.book.specs.declared.PrintPath.{PrintPath}
-use Rattle.book.specs.declared.Settings.{Settings}
+use Rattle.book.specs.Calls.{runCall}
+use Rattle.evaluation.proofs.Rooms.{run-lists, run-cut}
 use Rattle.lent_run.specs.Runs.{toldRun}
-use Rattle.lent_run.specs.declared.Start.{Start}
-use Rattle.lent_run.proofs.Outcome.{runTo, runCount, run-lists}
-use Rattle.lent_run.proofs.Types.{StartOf, StopRunOf}
+use Rattle.lent_run.proofs.Outcome.{ofRun, shape, ran, runCount}
+use Rattle.lent_run.proofs.Types.{StopRunOf}
 use Rattle.walks.proofs.Contracts.{Known}
 use Rattle.walks.proofs.ListCalls.{Counts, proved}
-use Rattle.walks.proofs.WordCalls.{Left, Shape, single, second, Evaluates}
+use Rattle.walks.proofs.WordCalls.{Evaluates}
 use Rattle.word_rooms.proofs.Callees.{least}
-use Rattle.word_rooms.proofs.Listings.{elected}
+use Rattle.word_rooms.proofs.Listings.{elected, elects}
 use Rattle.lent_lists.proofs.Callees.{fill-elected}
-use Rattle.lent_run.proofs.run_words.Symbol as callee-def
-use Rattle.lent_run.proofs.run_words.Met as callee-thm
-use Rattle.lent_run.proofs.run_count.Symbol as count-def
-use Rattle.lent_run.proofs.run_count.Met as count-thm
-use Rattle.lent_run.proofs.run_listed.Key.{name as #run}
-use Rattle.lent_run.proofs.run_listed.Statement as stated
-use Rattle.lent_run.proofs.run_listed.Code as code
+use Rattle.lent_run.proofs.run_words as core
+use Rattle.lent_run.proofs.run_count as count
+use Rattle.lent_run.proofs.run_listed as f
 
-abbrev shape : Shape
-shape = single second StartOf
-
-abbrev outcome : Lft → Settings → RefT (List ℕ) → Start → List ℕ → ℕ
-    → Left (Answer PassCounts × PrintPath) Elected (Unit {0})
-outcome κ settings script start w room = runTo settings (script .now) start w room
-
-abbrev callee : Known (Evaluates elected StopRunOf toldRun shape outcome)
-callee = record { name = callee-def.name; routine = callee-def.routine; met = callee-thm.met }
+abbrev callee : Known (Evaluates elected StopRunOf toldRun shape ran)
+callee = record { name = core.Symbol.name; routine = core.Symbol.routine; met = core.Met.met }
 
 abbrev run-count : Known (Counts StopRunOf (λ r. runCount (toldRun r)))
-run-count = record { name = count-def.name; routine = count-def.routine; met = count-thm.met }
+run-count = record { name = count.Symbol.name; routine = count.Symbol.routine; met = count.Met.met }
 
-pub run-listed-spec : {M : Type 1} → stated.statement M
-unfolding code.routine
+pub run-listed-spec : {M : Type 1} → f.Statement.statement M
+unfolding f.Code.routine
 run-listed-spec 𝓤 H 𝓜 𝓖 𝓡 =
-    proved elected StopRunOf toldRun runCount shape outcome
-    (λ κ settings script start w. run-lists settings (script .now) start w) least callee run-count fill-elected
-    𝓤 H 𝓜 𝓖 𝓡 code.env #run (code.unfolded 𝓤 H 𝓜 𝓡) code.calls-word-rooms·least code.calls-lent-run·run-words
-    code.calls-lent-run·run-count code.calls-lent-lists·fill-elected
+    proved elected StopRunOf toldRun runCount shape ran (λ κ settings script start w.
+    elects runCount ofRun (λ room. runCall settings (script .now) (start .trade) w room (start .path))
+    (run-lists settings (script .now) (start .trade) w (start .path))
+    (run-cut settings (script .now) (start .trade) w (start .path))) least callee run-count fill-elected
+    𝓤 H 𝓜 𝓖 𝓡 f.Code.env f.Key.name (f.Code.unfolded 𝓤 H 𝓜 𝓡) f.Code.calls-word-rooms·least
+    f.Code.calls-lent-run·run-words f.Code.calls-lent-run·run-count f.Code.calls-lent-lists·fill-elected

@@ -1,11 +1,15 @@
--- `admit_trailing_stop` meets its contract: its code is that of a call on a lent path, over the admission by value, to
--- which the store goes for good.
-use Rattle.walks.proofs.WalkSteps.{refl, List, [], _∷_, id⊢, ftrue, flft, givenOf, tablesOf, ‵, raw, _⊛_, _$_, ! }
-use Rattle.walks.proofs.WalkSteps.{move, drop, split, join, fsplit, fsplit3, fjoin, frame, done, use1, use2, look}
-use Rattle.walks.proofs.WalkSteps.{look-raw, init, store-raw, stop, hop, fld, from, load, addr, agg, of-opd, and-then}
-use Rattle.walks.proofs.WalkSteps.{no-more, assigns, land, whole, sub, look-in, u64, named, MutSlice, slice-vals}
-use Rattle.walks.proofs.PathCalls.{full, copied, reads, asks-with, lent, lent-struct, Plain, flag, values, fits}
-use Rattle.walks.proofs.PathCalls.{lent-on, slice-fits, walked, meets}
+-- `admit_trailing_stop` meets its contract: the admission by value is called with the path, and the path that it
+-- answers is stored. The store goes to it for good.
+use Rattle.walks.proofs.WalkSteps.{_≡_, refl, !, List, [], _$_, _∷_, assigns, by, fmOf, from, givenOf, hop, land}
+use Rattle.walks.proofs.WalkSteps.{load, look-raw, move, named, no-more, of-opd, stop, store-raw, u64}
+use Rattle.book.specs.Answers.{toldAdmission}
+use Rattle.book.specs.Store.{admit}
+use Rattle.walks.proofs.Cells.{first-of, second-of, sliced, typeds, reads-at, copied, sets, enters, leaves, full}
+use Rattle.walks.proofs.Contracts.{Form, Known, calls, ends, proved}
+use Rattle.walks.proofs.Lending.{relends}
+use Rattle.walks.proofs.Lent.{opened, closed}
+use Rattle.walks.proofs.Params.{values, lent, lent-struct}
+use Rattle.walks.proofs.Plain.{Plain, flag}
 use Rattle.walks.proofs.Types.{PathOf, LastOf, IdOf, TermsOf, QuantityOf, AdmittedOf, AdmissionOf, admission-parts}
 use Rattle.admission.proofs.admit_trailing_stop as core
 use Rattle.lent_store.proofs.admit_trailing_stop as f
@@ -14,43 +18,54 @@ use Rattle.lent_store.proofs.admit_trailing_stop as f
 abbrev Ps : List Plain
 Ps = flag ∷ LastOf ∷ IdOf ∷ TermsOf ∷ QuantityOf ∷ []
 
+abbrev Admission : Form
+Admission = record {
+  lifetimes = 1;
+  params = lent 1 0 tt u64 ∷ values 1 (PathOf ∷ Ps);
+  result = AdmissionOf;
+  asks = λ κs a. [];
+  tells = λ κs a r e. let v = a .1 .1 in
+      let o = admit (v .0) (v .1 .0) (v .1 .1 .0) (v .1 .1 .1 .0) (v .1 .1 .1 .1 .0) (a .0 .now) (a .1 .0) in
+      (toldAdmission (r .answer) ≡ o .answer) ∷ (r .path ≡ o .path) ∷ (e .0 .now ≡ o .words) ∷ [];
+}
+
+abbrev Admits : Form
+Admits = record {
+  lifetimes = 2;
+  params = lent 2 0 tt u64 ∷ lent-struct 2 1 tt (PathOf .row) ∷ values 2 Ps;
+  result = AdmittedOf;
+  asks = λ κs a. [];
+  tells = λ κs a r e. let v = a .1 .1 in
+      let o = admit (v .0) (v .1 .0) (v .1 .1 .0) (v .1 .1 .1 .0) (v .1 .1 .1 .1 .0) (a .0 .now) (a .1 .0 .now) in
+      (toldAdmission r ≡ o .answer) ∷ (e .1 .0 .now ≡ o .path) ∷ (e .0 .now ≡ o .words) ∷ [];
+}
+
+abbrev callee : Known Admission
+callee = record { name = core.Symbol.name; routine = core.Symbol.routine; met = core.Met.met }
+
 pub admit-trailing-stop-spec : {M : Type 1} → f.Statement.statement M
-unfolding f.Code.routine tablesOf
+unfolding f.Code.routine
 admit-trailing-stop-spec 𝓤 H 𝓜 𝓖 𝓡 =
     let A = 𝓖 .A in
     let W = givenOf 𝓤 H 𝓜 𝓖 in
-    meets 2 (lent 2 0 tt u64 ∷ lent-struct 2 1 tt (PathOf .row) ∷ values 2 Ps) AdmittedOf 1
-    (lent 1 0 tt u64 ∷ values 1 (PathOf ∷ Ps)) AdmissionOf (AdmissionOf .mir ∷ lent-on u64 (PathOf .mir ∷ []))
-    f.Code.function 𝓤 H 𝓜 𝓖 𝓡 (f.clauses 𝓤 H A (𝓜 .mem) (𝓡 .run)) (core.clauses 𝓤 H A (𝓜 .mem) (𝓡 .run)) f.Code.env
-    core.Symbol.name f.Key.name (f.Code.unfolded 𝓤 H 𝓜 𝓡) core.Symbol.routine f.Code.calls-admission·admit-trailing-stop
-    (core.Met.met 𝓤 H 𝓜 𝓖 𝓡) (λ κs qs a g are. let x = a .1 .0 in
-    let store-fits = slice-fits (are .0 .0 .1 .0) in
-    walked x (κs .1 .0) (qs .1 .0) (κs .0, tt) (qs .0, tt) (a .0, (x .now, a .1 .1)) tt
-    (store-fits, ((tt, tt), fits Ps 𝓤 H A W (a .1 .1) (are .1 .1))) (λ bs call end.
-    move ! (24 ∷ 25 ∷ []) $ use1 W (‵ (flft (κs .0) (qs .0)) ⊛ ‵ (flft (κs .1 .0) (qs .1 .0)) ⊛ ‵ ftrue) (id⊢ 𝓤 _) $
-    split ! $ move ! (1 ∷ []) $ split ! $ move ! (3 ∷ []) $ fsplit ! $ move ! (1 ∷ []) $ fsplit ! $ fsplit3 ! $ drop ! $
-    -- [obs; the borrow; what the values own; what the store owns; the path's token; true; the store's; _11 (7); …]
-    move ! (0 ∷ 1 ∷ 4 ∷ []) $ reads PathOf ! tt (x .ptr .0) (x .ptr .1) (λ was. move ! (4 ∷ 6 ∷ []) $ drop ! $ drop ! $
-    move ! (5 ∷ 4 ∷ []) $ use2 W (raw _) (asks-with 𝓤 H A W (κs .0) (qs .0) (MutSlice (named 0) (κs .0) u64) (a .0)
-    (slice-vals (a .0)) (PathOf ∷ Ps) (x .now, a .1 .1) (was, are .1 .1)) $
-    -- [what the core asks; the path's cell; the open borrow; obs; auth; _11 (5); …]
-    assigns ! (addr ! (from ! (fld ! refl (hop ! (look-in ! 25 (sub ! 0 refl (whole !))) (stop !))))) (from ! (stop !))
-    (init ! 9 refl (tt, tt)) $
-    assigns ! (agg ! (copied ! 9 refl (and-then ! (load ! (from ! (fld ! refl (stop !)))
-    (look-in ! 25 (sub ! 1 refl (whole !)))) (no-more !)))) (from ! (stop !)) (init ! 7 refl store-fits) $
-    assigns ! (of-opd ! (load ! (from ! (hop ! (look ! 23 refl) (stop !))) (look-raw ! 1 refl))) (from ! (stop !))
-    (init ! 5 refl (PathOf .typed 𝓤 H A W _ _ was)) $
-    call .calls (copied ! 7 refl (copied ! 5 refl (copied ! 21 refl (copied ! 19 refl (copied ! 17 refl
-    (copied ! 15 refl (copied ! 13 refl (no-more !)))))))) (λ d zs is. let parts = admission-parts d is in
-    move ! (1 ∷ 2 ∷ 3 ∷ 4 ∷ []) $ land ! (from ! (stop !)) (init ! 11 refl (AdmissionOf .typed 𝓤 H A W d _ is)) $
-    assigns ! (of-opd ! (load ! (from ! (fld ! refl (stop !))) (look-in ! 11 (sub ! 1 refl (whole !)))))
-    (from ! (hop ! (look ! 23 refl) (stop !))) (store-raw ! 0 refl (PathOf .typed 𝓤 H A W (d .path) _ (parts .1))) $
-    assigns ! (of-opd ! (load ! (from ! (fld ! refl (stop !))) (look-in ! 11 (sub ! 0 refl (whole !)))))
-    (from ! (stop !)) (init ! 27 refl (AdmittedOf .typed 𝓤 H A W (d .answer) _ (parts .0))) $
-    end d zs (d .answer) (parts .0) (d .path) (parts .1) (zs .0, (d .path, zs .1 .1))
-    (move ! (2 ∷ []) $ use1 W (‵ (flft (κs .0) (qs .0)) ⊛ ‵ ftrue) (id⊢ 𝓤 _) $ split ! $
-    -- [the store's token; true; res; the path's token; the last values]
-    move ! (3 ∷ 1 ∷ []) $ join ! $ move ! (1 ∷ 0 ∷ []) $ join ! $ frame ! $ move ! (1 ∷ []) $ fsplit ! $
-    move ! (1 ∷ []) $ fsplit ! $ drop ! $ move ! (2 ∷ 0 ∷ []) $ fjoin ! $ move ! (1 ∷ 0 ∷ []) $ fjoin ! $ done !)
-    (id⊢ 𝓤 _) (full _ ∷ full _ ∷ full _ ∷ full _ ∷ full _ ∷ full _ ∷ full _ ∷ full _ ∷ full _ ∷ full _ ∷ full _ ∷ [])
-    tt 22 refl))))
+    proved Admits 𝓤 H 𝓜 𝓖 𝓡 f.Code.function f.Code.env f.Key.name (f.Code.unfolded 𝓤 H 𝓜 𝓡) (λ 𝓣 known κs qs a are ok.
+    let x = a .1 .0 in
+    let store-fits = sliced (are .0 .0 .1 .0) in
+    enters ! (𝓣 .C) (𝓣 .Λ) f.Code.function _ (store-fits, ((tt, tt), typeds 𝓤 H A W Ps (a .1 .1) (are .1 .1))) (λ bs.
+    move ! (1 ∷ 3 ∷ []) $ opened PathOf ! tt (named 1) x (λ was.
+    -- [the path's cell; the open borrow; obs; auth; the store's token; what it owns; the locals (6)]
+    relends ! 6 1 9 refl refl refl (tt, tt) refl refl refl store-fits $
+    assigns ! (of-opd ! (load ! (from ! (hop ! (reads-at ! 8 refl) (stop !))) (look-raw ! 0 refl))) (from ! (stop !))
+    (sets ! 17 refl (PathOf .typed 𝓤 H A W _ _ was)) $ move ! (4 ∷ 5 ∷ []) $
+    calls Admission ! (fmOf 𝓤 H (W .laws) 𝓣) (known Admission callee f.Code.calls-admission·admit-trailing-stop)
+    (κs .0, tt) (qs .0, tt) (a .0, (x .now, a .1 .1)) (was, are .1 .1) tt
+    (copied ! 15 refl (copied ! 16 refl (copied ! 8 refl (copied ! 9 refl (copied ! 10 refl (copied ! 11 refl
+    (copied ! 12 refl (no-more !)))))))) (λ d zs is e. let parts = admission-parts d is in
+    move ! (2 ∷ 3 ∷ 4 ∷ 5 ∷ []) $ land ! (from ! (stop !)) (sets ! 14 refl (AdmissionOf .typed 𝓤 H A W d _ is)) $
+    assigns ! (of-opd ! (second-of ! 14 refl refl)) (from ! (hop ! (reads-at ! 8 refl) (stop !)))
+    (store-raw ! 0 refl (PathOf .typed 𝓤 H A W (d .path) _ (parts .1))) $
+    assigns ! (of-opd ! (first-of ! 14 refl refl)) (from ! (stop !)) (sets ! 6 refl
+    (AdmittedOf .typed 𝓤 H A W (d .answer) _ (parts .0))) $
+    closed PathOf ! tt x (d .path) (parts .1) $ leaves ! 4 (full _ ∷ full _ ∷ full _ ∷ full _ ∷ full _ ∷ full _ ∷ full _
+    ∷ full _ ∷ full _ ∷ full _ ∷ full _ ∷ full _ ∷ []) refl tt refl $ move ! (2 ∷ 0 ∷ 3 ∷ 1 ∷ []) $
+    by ! (ends Admits 𝓤 H A κs qs a W (d .answer) (parts .0) (zs .0, (d .path, (tt, (tt, (tt, (tt, (tt, tt))))))) e)))))
