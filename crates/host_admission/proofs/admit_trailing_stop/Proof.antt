@@ -33,12 +33,13 @@ returns-4 c =
     let t = p .before .before .before in
     let k = t .before .before in
     let admitted = a .admit-trailing-stop .ensures in
+    let told = rw (admitted .0) at (c .of-admission .ensures) in
+    let path-left = rw (admitted .1 .0) at (c .before .before .path-words .ensures) in
     let id = is-known (k .before .id-known .ensures) (k .if1 .left) in
     let terms = is-known (t .before .terms-known .ensures) (t .if2 .left) in
     let path = is-known (p .before .path-known .ensures) (p .if3 .left) in
     rw (id, terms, path, ← b .path-of .ensures, ← i .before .last-price-of .ensures, ← i .id-of .ensures)
-    (rw (← a .before .terms-of .ensures, ← admitted .0, ← admitted .1 .0)
-    (c .of-admission .ensures, admitted .1 .1, c .before .before .path-words .ensures))
+    (rw (← a .before .terms-of .ensures) (told, admitted .1 .1, path-left))
 
 pub admit-trailing-stop-spec : {M : Type 1} → statement M
 unfolding number answered

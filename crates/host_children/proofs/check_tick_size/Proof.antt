@@ -1,4 +1,5 @@
 -- `host_children::check_tick_size` meets its contract.
+use mathlib.Core.Path.{ap, _∙_}
 use borrow.Author.Needs.{needs}
 use Rattle.stop_protection.specs.Collar.{toldCheck, toldNew}
 use Rattle.host_words.specs.Answers.{number}
@@ -10,8 +11,8 @@ unfolding number toldCheck toldNew
 returns c =
     let k = c .before .before in
     let m = k .before .before in
-    rw (← m .before .before .try-new .ensures, m .made .given .1, ← k .check-tick-size .ensures)
-    (rw (c .enum-told .given .1))
+    let checked = rw (c .enum-told .given .1) at (k .check-tick-size .ensures) in
+    rw (← m .before .before .try-new .ensures, m .made .given .1) (ap number checked)
 
 returns-2 : tie.Need-returns-2
 unfolding number toldCheck toldNew
@@ -19,8 +20,8 @@ returns-2 c =
     let e = c .before .before in
     let k = e .before .before in
     let m = k .before .before in
-    rw (← m .before .before .try-new .ensures, m .made .given .1, ← k .check-tick-size .ensures, e .e .given .1)
-    (c .number .ensures)
+    let checked = rw (e .e .given .1) at (k .check-tick-size .ensures) in
+    rw (← m .before .before .try-new .ensures, m .made .given .1) (c .number .ensures ∙ ap number checked)
 
 pub check-tick-size-spec : {M : Type 1} → statement M
 unfolding number toldCheck toldNew

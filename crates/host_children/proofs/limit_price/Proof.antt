@@ -12,8 +12,8 @@ returns-2 c =
     let l = c .before in
     let p = l .before .before in
     let known = is-known (p .before .before .side-known .ensures) (p .before .if1 .left) in
-    rw (known, ← p .protection-of .ensures, ← l .before .side-from .ensures, ← l .limit .ensures)
-    (refl, c .limit-words .ensures)
+    rw (known, ← p .protection-of .ensures, ← l .before .side-from .ensures)
+    (refl, rw (l .limit .ensures) at (c .limit-words .ensures))
 
 pub limit-price-spec : {M : Type 1} → statement M
 unfolding number answered

@@ -13,7 +13,7 @@ returns-2 c =
     let i = s .before in
     let k = i .before .before .before in
     let known = is-known (k .before .id-known .ensures) (k .if1 .left) in
-    rw (known, ← i .id-of .ensures, ← s .stop-trigger-order-id .ensures) (refl, c .id-words .ensures)
+    rw (known, ← i .id-of .ensures) (refl, rw (s .stop-trigger-order-id .ensures) at (c .id-words .ensures))
 
 pub stop-trigger-order-id-spec : {M : Type 1} → statement M
 unfolding number answered

@@ -12,8 +12,8 @@ returns-2 c =
     let r = c .before in
     let p = r .before .before in
     let known = is-known (p .before .before .before .path-known .ensures) (p .before .before .if1 .left) in
-    rw (known, ← p .path-of .ensures, ← r .before .last-price-of .ensures, ← r .recorded .ensures)
-    (refl, c .path-words .ensures)
+    rw (known, ← p .path-of .ensures, ← r .before .last-price-of .ensures)
+    (refl, rw (r .recorded .ensures) at (c .path-words .ensures))
 
 pub record-print-spec : {M : Type 1} → statement M
 unfolding number

@@ -12,7 +12,7 @@ returns-2 c =
     let a = c .before in
     let p = a .before in
     let known = is-known (p .before .before .before .path-known .ensures) (p .before .before .if1 .left) in
-    rw (known, ← p .path-of .ensures, ← a .closed .ensures) (refl, c .path-words .ensures)
+    rw (known, ← p .path-of .ensures) (refl, rw (a .closed .ensures) at (c .path-words .ensures))
 
 pub reset-path-spec : {M : Type 1} → statement M
 unfolding number

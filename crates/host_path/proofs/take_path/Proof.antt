@@ -13,8 +13,8 @@ returns-2 c =
     let t = p .before .before in
     let a = t .before .before in
     let known = is-known (a .before .before .before .path-known .ensures) (a .before .before .if1 .left) in
-    rw (known, ← a .path-of .ensures, ← t .before .last-price-of .ensures, ← t .taken .ensures .0)
-    (rw (← t .taken .ensures .1) ((refl, c .segment-words .ensures), p .path-words .ensures))
+    rw (known, ← a .path-of .ensures, ← t .before .last-price-of .ensures)
+    ((refl, rw (t .taken .ensures .0) at (c .segment-words .ensures)), rw (t .taken .ensures .1) at (p .path-words .ensures))
 
 pub take-path-spec : {M : Type 1} → statement M
 unfolding number answered

@@ -11,8 +11,8 @@ returns-2 c =
     let a = c .before .before .before .before in
     let i = a .before .before in
     let known = is-known (i .before .before .id-known .ensures) (i .before .if1 .left) in
-    rw (known, ← i .id-of .ensures, ← a .cancel-pending-stop .ensures .0)
-    (c .of-stop .ensures, a .cancel-pending-stop .ensures .1)
+    rw (known, ← i .id-of .ensures)
+    (rw (a .cancel-pending-stop .ensures .0) at (c .of-stop .ensures), a .cancel-pending-stop .ensures .1)
 
 pub cancel-pending-stop-spec : {M : Type 1} → statement M
 unfolding number answered

@@ -11,7 +11,7 @@ returns-2 c =
     let p = c .before .before in
     let i = p .before in
     let known = is-known (i .before .before .id-known .ensures) (i .before .if1 .left) in
-    rw (known, ← i .id-of .ensures, ← p .pending-stop-order .ensures) (c .of-find .ensures)
+    rw (known, ← i .id-of .ensures) (rw (p .pending-stop-order .ensures) at (c .of-find .ensures))
 
 pub pending-stop-order-spec : {M : Type 1} → statement M
 unfolding number answered

@@ -23,7 +23,7 @@ returns-3 c =
     let id = is-known (k .before .before .id-known .ensures) (k .before .if1 .left) in
     let update = is-known (k .update-known .ensures) (i .before .if2 .left) in
     rw (id, update, ← i .id-of .ensures, ← l .before .update-of .ensures, ← l .last-price-of .ensures)
-    (rw (← u .update-pending-stop .ensures .0) (c .of-stop .ensures, u .update-pending-stop .ensures .1))
+    (rw (u .update-pending-stop .ensures .0) at (c .of-stop .ensures), u .update-pending-stop .ensures .1)
 
 pub update-pending-stop-spec : {M : Type 1} → statement M
 unfolding number answered

@@ -1,5 +1,5 @@
 -- `host_store::clear` meets its contract.
-use mathlib.Core.Path.{refl}
+use mathlib.Core.Path.{ap, refl, _∙_}
 use borrow.Author.Needs.{needs}
 use Rattle.host_words.proofs.Known.{is-known, is-unknown}
 use Rattle.host_words.specs.Answers.{number}
@@ -11,8 +11,11 @@ returns-2 c =
     let a = c .before .before .before .before .before in
     let b = a .before .before in
     let known = is-known (b .before .before .before .path-known .ensures) (b .before .before .if1 .left) in
-    rw (known, ← b .path-of .ensures, ← a .clear .ensures .0, ← a .clear .ensures .1 .0)
-    (c .of-layout .ensures, a .clear .ensures .1 .1, c .before .path-words .ensures)
+    rw (known, ← b .path-of .ensures) (
+      c .of-layout .ensures ∙ ap number (a .clear .ensures .0),
+      a .clear .ensures .1 .1,
+      rw (a .clear .ensures .1 .0) at (c .before .path-words .ensures),
+    )
 
 pub clear-spec : {M : Type 1} → statement M
 unfolding number

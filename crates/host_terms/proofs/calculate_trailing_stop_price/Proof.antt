@@ -12,7 +12,7 @@ returns-2 c =
     let a = c .before in
     let s = a .before in
     let known = is-known (s .before .before .side-known .ensures) (s .before .if1 .left) in
-    rw (known, ← s .side-from .ensures, ← a .calculate-trailing-stop-price .ensures) (refl, c .preview-words .ensures)
+    rw (known, ← s .side-from .ensures) (refl, rw (a .calculate-trailing-stop-price .ensures) at (c .preview-words .ensures))
 
 pub calculate-trailing-stop-price-spec : {M : Type 1} → statement M
 unfolding number answered

@@ -9,7 +9,7 @@ returns-2 c =
     let e = c .before in
     let t = e .before in
     let known = is-known (t .before .before .terms-known .ensures) (t .before .if1 .left) in
-    rw (known, ← t .terms-of .ensures, ← e .elected-by .ensures) (c .flag .ensures)
+    rw (known, ← t .terms-of .ensures) (rw (e .elected-by .ensures) at (c .flag .ensures))
 
 pub elected-by-spec : {M : Type 1} → statement M
 elected-by-spec =

@@ -9,7 +9,7 @@ returns-2 c =
     let i = c .before in
     let t = i .before in
     let known = is-known (t .before .before .terms-known .ensures) (t .before .if1 .left) in
-    rw (known, ← t .terms-of .ensures, ← i .inconsistency .ensures) (c .of-inconsistency .ensures)
+    rw (known, ← t .terms-of .ensures) (rw (i .inconsistency .ensures) at (c .of-inconsistency .ensures))
 
 pub inconsistency-spec : {M : Type 1} → statement M
 inconsistency-spec =

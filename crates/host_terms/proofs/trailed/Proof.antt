@@ -12,7 +12,7 @@ returns-2 c =
     let t = c .before in
     let a = t .before in
     let known = is-known (a .before .before .terms-known .ensures) (a .before .if1 .left) in
-    rw (known, ← a .terms-of .ensures, ← t .trailed .ensures) (refl, c .terms-words .ensures)
+    rw (known, ← a .terms-of .ensures) (refl, rw (t .trailed .ensures) at (c .terms-words .ensures))
 
 pub trailed-spec : {M : Type 1} → statement M
 unfolding number answered

@@ -1,7 +1,7 @@
--- `host_stops::update_known` meets its contract.
+-- `stop_words::update_known` meets its contract.
 use borrow.Author.Needs.{needs}
-use Rattle.host_stops.proofs.update_known.Statement.{statement}
-use Rattle.host_stops.proofs.update_known.Tie as tie
+use Rattle.stop_words.proofs.update_known.Statement.{statement}
+use Rattle.stop_words.proofs.update_known.Tie as tie
 
 pub update-known-spec : {M : Type 1} → statement M
 update-known-spec =

@@ -1,10 +1,10 @@
--- `host_stops::of_find` meets its contract.
+-- `stop_words::of_find` meets its contract.
 use mathlib.Core.Path.{refl}
 use borrow.Author.Needs.{needs}
 use Rattle.book.specs.Answers.{toldFind}
 use Rattle.host_words.specs.Answers.{answered, number}
-use Rattle.host_stops.proofs.of_find.Statement.{statement}
-use Rattle.host_stops.proofs.of_find.Tie as tie
+use Rattle.stop_words.proofs.of_find.Statement.{statement}
+use Rattle.stop_words.proofs.of_find.Tie as tie
 
 pub of-find-spec : {M : Type 1} → statement M
 unfolding number answered toldFind

@@ -1,7 +1,7 @@
--- `host_stops::stop_words` meets its contract.
+-- `stop_words::stop_words` meets its contract.
 use borrow.Author.Needs.{needs}
-use Rattle.host_stops.proofs.stop_words.Statement.{statement}
-use Rattle.host_stops.proofs.stop_words.Tie as tie
+use Rattle.stop_words.proofs.stop_words.Statement.{statement}
+use Rattle.stop_words.proofs.stop_words.Tie as tie
 
 pub stop-words-spec : {M : Type 1} → statement M
 stop-words-spec =

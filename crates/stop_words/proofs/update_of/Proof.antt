@@ -1,8 +1,8 @@
--- `host_stops::update_of` meets its contract.
+-- `stop_words::update_of` meets its contract.
 use borrow.Author.Tests.{ne-eqb}
 use borrow.Author.Needs.{needs}
-use Rattle.host_stops.proofs.update_of.Statement.{statement}
-use Rattle.host_stops.proofs.update_of.Tie as tie
+use Rattle.stop_words.proofs.update_of.Statement.{statement}
+use Rattle.stop_words.proofs.update_of.Tie as tie
 
 returns-4 : tie.Need-returns-4
 returns-4 c =

@@ -1,10 +1,10 @@
--- `host_stops::of_stop` meets its contract.
+-- `stop_words::of_stop` meets its contract.
 use mathlib.Core.Path.{refl}
 use borrow.Author.Needs.{needs}
 use Rattle.book.specs.Answers.{toldStop}
 use Rattle.host_words.specs.Answers.{answered, number}
-use Rattle.host_stops.proofs.of_stop.Statement.{statement}
-use Rattle.host_stops.proofs.of_stop.Tie as tie
+use Rattle.stop_words.proofs.of_stop.Statement.{statement}
+use Rattle.stop_words.proofs.of_stop.Tie as tie
 
 pub of-stop-spec : {M : Type 1} → statement M
 unfolding number answered toldStop
