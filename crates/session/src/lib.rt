@@ -26,9 +26,7 @@
 //     show K            after a call on the store: 0 nothing; 1 the words that changed; 2 next sequence, pending
 //                       count, the stops that changed by rising sequence, and the sequence of each that is gone
 mod lending;
-mod path_lines;
 mod reading;
 mod running;
-mod term_lines;
 
 pub use reading::session;

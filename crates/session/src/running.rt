@@ -1,8 +1,6 @@
 // One line: read, run, and answered by one line.
 use crate::lending;
 use crate::lending::Desk;
-use crate::path_lines;
-use crate::term_lines;
 use session_text::lent::MOST_WORDS;
 use session_text::names;
 use session_text::numbers;
@@ -35,19 +33,10 @@ fn on_store(call: u64, s: &mut [u64], path: &mut [u64; 4], n: &[u64], desk: Desk
     }
 }
 
-// A call that takes values alone, or the path.
-fn on_values(call: u64, path: &mut [u64; 4], n: &[u64]) {
-    if call < names::RECORD {
-        term_lines::run(call, n);
-    } else {
-        path_lines::run(call, path, n);
-    }
-}
-
 // A call, or a line that sets what is lent. What is lent after it.
 fn call(call: u64, words: &mut [u64], path: &mut [u64; 4], n: &[u64], desk: Desk) -> Desk {
     if call < names::WELL_FORMED {
-        on_values(call, path, n);
+        session_values::run(call, path, n);
         return desk;
     }
     if call >= names::WORDS {
