@@ -11,6 +11,8 @@ use lib.Dec.{leb}
 use lib.ListN.{length, getD}
 use Rattle.error.specs.Answer.{Answer, refused, accepted}
 use Rattle.pricelevel.proofs.Bools.{and-parts}
+use Rattle.pricelevel.specs.Holder.{HolderFits}
+use Rattle.pricelevel.specs.declared.Holder.{Holder}
 use Rattle.pricelevel.specs.declared.Id.{Id}
 use Rattle.pricelevel.specs.declared.Quantity.{Quantity}
 use Rattle.pricelevel.specs.declared.Seq.{Seq}
@@ -90,18 +92,19 @@ clear-stored w path =
 -- Admission
 
 -- the numbers of an admission are words
-pub record AdmissionFits (id : Id) (terms : StopTerms) (amount : Quantity) : Type 0 where
+pub record AdmissionFits (id : Id) (terms : StopTerms) (amount : Quantity) (owner : Holder) : Type 0 where
   pub high : id .high < 2 ^ 64
   pub low : id .low < 2 ^ 64
   pub stop : terms .stop .0 < 2 ^ 64
   pub watermark : terms .watermark .0 < 2 ^ 64
   pub trail : terms .trail < 2 ^ 64
   pub quantity : amount .0 < 2 ^ 64
+  pub holder : HolderFits owner
 
-newEntry-fits : (id : Id) (terms : StopTerms) (quantity : Quantity) (b : Book) → AdmissionFits id terms quantity
-    → Fits b → StopFits (newEntry id terms quantity b)
+newEntry-fits : (id : Id) (terms : StopTerms) (quantity : Quantity) (holder : Holder) (b : Book)
+    → AdmissionFits id terms quantity holder → Fits b → StopFits (newEntry id terms quantity holder b)
 unfolding newEntry
-newEntry-fits id terms quantity b h f = record {
+newEntry-fits id terms quantity holder b h f = record {
   high = h .high;
   low = h .low;
   stop = h .stop;
@@ -109,24 +112,25 @@ newEntry-fits id terms quantity b h f = record {
   trail = h .trail;
   quantity = h .quantity;
   seq = f .next;
+  holder = h .holder;
 }
 
-pub admit-stored : (kill : Bool) (trade : LastPrice) (id : Id) (terms : StopTerms) (quantity : Quantity) (w : List ℕ)
-    (path : PrintPath)
-    → AdmissionFits id terms quantity → Accepted (admit kill trade id terms quantity w path .answer)
+pub admit-stored : (kill : Bool) (trade : LastPrice) (id : Id) (terms : StopTerms) (quantity : Quantity) (holder : Holder)
+    (w : List ℕ) (path : PrintPath)
+    → AdmissionFits id terms quantity holder → Accepted (admit kill trade id terms quantity holder w path .answer)
     → Stored (getD w 0 0)
-    (admitted (newEntry id terms quantity (bookOf w)) (bookOf w)) w
-    (admit kill trade id terms quantity w path .words)
+    (admitted (newEntry id terms quantity holder (bookOf w)) (bookOf w)) w
+    (admit kill trade id terms quantity holder w path .words)
 unfolding admit
-admit-stored kill trade id terms quantity w path fits =
+admit-stored kill trade id terms quantity holder w path fits =
     let b = bookOf w in
-    let t = newEntry id terms quantity b in
+    let t = newEntry id terms quantity holder b in
     decide-accepted (λ (o : PathOutcome Seq). o .answer)
     (λ o v. Stored (getD w 0 0) (admitted t b) w (o .words)) _ _ _ (λ k. refl)
     (λ e a.
-    let q = admission-admissible kill trade id terms quantity w e in
+    let q = admission-admissible kill trade id terms quantity holder w e in
     book-stored (admitted t b) w (q .0) (λ v. admitted-valid t b v (q .1))
-    (λ f. admitted-fits t b f (newEntry-fits id terms quantity b fits f) (q .2)) (admitted-length t b))
+    (λ f. admitted-fits t b f (newEntry-fits id terms quantity holder b fits f) (q .2)) (admitted-length t b))
 
 ------------------------------------------------------------------------
 -- Cancel and change

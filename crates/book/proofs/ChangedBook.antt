@@ -126,6 +126,7 @@ module _ (update : OrderUpdate) (p : Pending) (b : Book) where
         trail = rw (changedTerms-keeps update (p .entry) .1) (t .trail);
         quantity = n .1;
         seq = cases (takesSequence update) (λ e. rw e (f .next)) (λ e. rw e (t .seq));
+        holder = t .holder;
       })
 
   pub changed-length : length (changed update p b .slots) ≡ length (b .slots)

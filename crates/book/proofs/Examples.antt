@@ -3,11 +3,13 @@ use Prim.Native.Nat.{ℕ}
 use mathlib.Core.Path.{_≡_, refl}
 use mathlib.Core.Bool.{false}
 use mathlib.Core.List.{List, [], _∷_, _++_, map}
-use lib.ListN.{replicate}
+use lib.ListN.{drop, replicate}
 use Rattle.error.specs.Answer.{Answer, refused, accepted}
+use Rattle.pricelevel.specs.Holder.{holderOf}
 use Rattle.pricelevel.specs.Identity.{kindNumber, sameId}
 use Rattle.pricelevel.specs.Side.{sideNumber}
 use Rattle.pricelevel.specs.Tick.{onTick}
+use Rattle.pricelevel.specs.declared.Holder.{Holder}
 use Rattle.pricelevel.specs.declared.Id.{Id}
 use Rattle.pricelevel.specs.declared.IdKind.the-variants as kind
 use Rattle.pricelevel.specs.declared.Price.{Price}
@@ -50,8 +52,11 @@ plain = record { kill = false; protection = protection.None; namespace = record 
 closedPath : PrintPath
 closedPath = record { «open» = false; «has_prev» = false; prev = price 0; first = price 0 }
 
+admitFor : Holder → List ℕ → LastPrice → ℕ → StopTerms → PathOutcome Seq
+admitFor holder w trade id t = admit false trade (sequential id) t (record { 0 = 1 }) holder w closedPath
+
 admitInto : List ℕ → LastPrice → ℕ → StopTerms → PathOutcome Seq
-admitInto w trade id t = admit false trade (sequential id) t (record { 0 = 1 }) w closedPath
+admitInto = admitFor (holderOf 0 0 0 0)
 
 segmentOver : List ℕ → LastPrice → ℕ → ℕ → SegmentOutcome
 segmentOver w prev first last = segmentCall plain (record { prev = prev; first = price first; last = price last }) w 4 8
@@ -93,36 +98,39 @@ admissionLines o = toldSeq (o .answer) ∷ o .words ∷ []
 
 -- a layout of two records leaves the word behind it
 laidOut : List ℕ
-laidOut = layOut 2 0 (replicate 32 5) .words
+laidOut = layOut 2 0 (replicate 40 5) .words
 
 -- two sells, as the program forecast reads them
 forecastStore : List ℕ
 forecastStore =
     2 ∷ 2 ∷ 2 ∷ 0 ∷ 1 ∷ 1 ∷ 0 ∷ 0 ∷ 0
-    ∷ 2 ∷ 0 ∷ 7 ∷ 1 ∷ 98 ∷ 100 ∷ 10 ∷ 1 ∷ 0 ∷ 2 ∷ 2
-    ∷ 2 ∷ 0 ∷ 9 ∷ 1 ∷ 95 ∷ 100 ∷ 10 ∷ 1 ∷ 1 ∷ 0 ∷ 0
+    ∷ 2 ∷ 0 ∷ 7 ∷ 1 ∷ 98 ∷ 100 ∷ 10 ∷ 1 ∷ 0 ∷ 2 ∷ 2 ∷ 0 ∷ 0 ∷ 0 ∷ 0
+    ∷ 2 ∷ 0 ∷ 9 ∷ 1 ∷ 95 ∷ 100 ∷ 10 ∷ 1 ∷ 1 ∷ 0 ∷ 0 ∷ 0 ∷ 0 ∷ 0 ∷ 0
     ∷ []
 
 -- a sell (95, 100, 5)
 turningStore : List ℕ
-turningStore = 1 ∷ 1 ∷ 1 ∷ 0 ∷ 1 ∷ 1 ∷ 0 ∷ 0 ∷ 0 ∷ 2 ∷ 0 ∷ 7 ∷ 1 ∷ 95 ∷ 100 ∷ 5 ∷ 1 ∷ 0 ∷ 0 ∷ 0 ∷ []
+turningStore =
+    1 ∷ 1 ∷ 1 ∷ 0 ∷ 1 ∷ 1 ∷ 0 ∷ 0 ∷ 0
+    ∷ 2 ∷ 0 ∷ 7 ∷ 1 ∷ 95 ∷ 100 ∷ 5 ∷ 1 ∷ 0 ∷ 0 ∷ 0 ∷ 0 ∷ 0 ∷ 0 ∷ 0
+    ∷ []
 
 -- a sell and a buy that a print at 100 elects
 bothStore : List ℕ
 bothStore =
     2 ∷ 2 ∷ 2 ∷ 0 ∷ 1 ∷ 1 ∷ 2 ∷ 2 ∷ 0
-    ∷ 2 ∷ 0 ∷ 7 ∷ 1 ∷ 100 ∷ 100 ∷ 10 ∷ 1 ∷ 0 ∷ 0 ∷ 0
-    ∷ 2 ∷ 0 ∷ 9 ∷ 0 ∷ 100 ∷ 100 ∷ 10 ∷ 1 ∷ 1 ∷ 0 ∷ 0
+    ∷ 2 ∷ 0 ∷ 7 ∷ 1 ∷ 100 ∷ 100 ∷ 10 ∷ 1 ∷ 0 ∷ 0 ∷ 0 ∷ 0 ∷ 0 ∷ 0 ∷ 0
+    ∷ 2 ∷ 0 ∷ 9 ∷ 0 ∷ 100 ∷ 100 ∷ 10 ∷ 1 ∷ 1 ∷ 0 ∷ 0 ∷ 0 ∷ 0 ∷ 0 ∷ 0
     ∷ []
 
 -- two sells with equal stops, two buys with equal watermarks: ties by sequence ascending, and in the last descending
 tiesStore : List ℕ
 tiesStore =
     4 ∷ 4 ∷ 4 ∷ 0 ∷ 1 ∷ 1 ∷ 3 ∷ 4 ∷ 0
-    ∷ 2 ∷ 0 ∷ 1 ∷ 1 ∷ 90 ∷ 100 ∷ 10 ∷ 1 ∷ 0 ∷ 2 ∷ 2
-    ∷ 2 ∷ 0 ∷ 2 ∷ 1 ∷ 90 ∷ 100 ∷ 10 ∷ 1 ∷ 1 ∷ 0 ∷ 0
-    ∷ 2 ∷ 0 ∷ 3 ∷ 0 ∷ 110 ∷ 100 ∷ 10 ∷ 1 ∷ 2 ∷ 4 ∷ 0
-    ∷ 2 ∷ 0 ∷ 4 ∷ 0 ∷ 110 ∷ 100 ∷ 10 ∷ 1 ∷ 3 ∷ 0 ∷ 3
+    ∷ 2 ∷ 0 ∷ 1 ∷ 1 ∷ 90 ∷ 100 ∷ 10 ∷ 1 ∷ 0 ∷ 2 ∷ 2 ∷ 0 ∷ 0 ∷ 0 ∷ 0
+    ∷ 2 ∷ 0 ∷ 2 ∷ 1 ∷ 90 ∷ 100 ∷ 10 ∷ 1 ∷ 1 ∷ 0 ∷ 0 ∷ 0 ∷ 0 ∷ 0 ∷ 0
+    ∷ 2 ∷ 0 ∷ 3 ∷ 0 ∷ 110 ∷ 100 ∷ 10 ∷ 1 ∷ 2 ∷ 4 ∷ 0 ∷ 0 ∷ 0 ∷ 0 ∷ 0
+    ∷ 2 ∷ 0 ∷ 4 ∷ 0 ∷ 110 ∷ 100 ∷ 10 ∷ 1 ∷ 3 ∷ 0 ∷ 3 ∷ 0 ∷ 0 ∷ 0 ∷ 0
     ∷ []
 
 ------------------------------------------------------------------------
@@ -130,7 +138,7 @@ tiesStore =
 
 -- both records are free, the one that left last at the head
 forecastLeft : List ℕ
-forecastLeft = 2 ∷ 0 ∷ 2 ∷ 0 ∷ 0 ∷ 0 ∷ 0 ∷ 0 ∷ 2 ∷ (replicate 20 0 ++ (1 ∷ 0 ∷ []))
+forecastLeft = 2 ∷ 0 ∷ 2 ∷ 0 ∷ 0 ∷ 0 ∷ 0 ∷ 0 ∷ 2 ∷ (replicate 24 0 ++ (1 ∷ replicate 5 0))
 
 sellLine : List ℕ
 sellLine = 2 ∷ 0 ∷ 7 ∷ 1 ∷ 100 ∷ 1 ∷ 0 ∷ 100 ∷ []
@@ -148,11 +156,14 @@ example found expected = record { found = found; expected = expected }
 table : List Example
 table =
     example (laidOut ∷ [])
-    ((2 ∷ 0 ∷ 0 ∷ 0 ∷ 0 ∷ 0 ∷ 0 ∷ 0 ∷ 1 ∷ (replicate 9 0 ++ (2 ∷ 0 ∷ replicate 9 0 ++ (0 ∷ 0 ∷ 5 ∷ [])))) ∷ [])
+    ((2 ∷ 0 ∷ 0 ∷ 0 ∷ 0 ∷ 0 ∷ 0 ∷ 0 ∷ 1 ∷ (replicate 9 0 ++ (2 ∷ replicate 20 0 ++ (5 ∷ [])))) ∷ [])
     ∷ example
     (admissionLines (admitInto (admitInto laidOut last.None 7 (terms Sell 98 100 10) .words) last.None 9
     (terms Sell 95 100 10)))
     ((1 ∷ 1 ∷ []) ∷ (forecastStore ++ (5 ∷ [])) ∷ [])
+    ∷ example (drop 24 (admitFor (holderOf 1 2 3 4) (admitInto laidOut last.None 7 (terms Sell 98 100 10) .words) last.None 9
+    (terms Sell 95 100 10) .words) ∷ [])
+    ((2 ∷ 0 ∷ 9 ∷ 1 ∷ 95 ∷ 100 ∷ 10 ∷ 1 ∷ 1 ∷ 0 ∷ 0 ∷ 1 ∷ 2 ∷ 3 ∷ 4 ∷ 5 ∷ []) ∷ [])
     ∷ example (admissionLines (admitInto forecastStore last.None 11 (terms Sell 90 100 10)))
     ((0 ∷ 10 ∷ []) ∷ forecastStore ∷ [])
     ∷ example (admissionLines (admitInto forecastStore (last.At (price 90)) 9 (terms Sell 90 100 10)))
@@ -166,7 +177,7 @@ table =
     ((1 ∷ 0 ∷ 2 ∷ []) ∷ forecastLeft
     ∷ (2 ∷ 0 ∷ 7 ∷ 1 ∷ 98 ∷ 1 ∷ 0 ∷ 94 ∷ []) ∷ (2 ∷ 0 ∷ 9 ∷ 1 ∷ 95 ∷ 1 ∷ 1 ∷ 94 ∷ []) ∷ [])
     ∷ example (walkLines (walkOver turningStore (100 ∷ 110 ∷ 100 ∷ [])))
-    ((1 ∷ 1 ∷ 1 ∷ []) ∷ (1 ∷ 0 ∷ 1 ∷ 0 ∷ 0 ∷ 0 ∷ 0 ∷ 0 ∷ 1 ∷ replicate 11 0) ∷ (2 ∷ 0 ∷ 7 ∷ 1 ∷ 105 ∷ 1 ∷ 0 ∷ 100 ∷ [])
+    ((1 ∷ 1 ∷ 1 ∷ []) ∷ (1 ∷ 0 ∷ 1 ∷ 0 ∷ 0 ∷ 0 ∷ 0 ∷ 0 ∷ 1 ∷ replicate 15 0) ∷ (2 ∷ 0 ∷ 7 ∷ 1 ∷ 105 ∷ 1 ∷ 0 ∷ 100 ∷ [])
     ∷ [])
     ∷ example (segmentLines (segmentOver turningStore last.None 100 100))
     ((1 ∷ 0 ∷ 0 ∷ []) ∷ turningStore ∷ [])
@@ -186,5 +197,5 @@ expected : List (List (List ℕ))
 expected = map (λ e. e .expected) table
 
 examples : found ≡ expected
-unfolding price sequential terms plain closedPath admitInto segmentOver walkOver toldSeq toldCounts line movedLine segmentLines walkLines admissionLines laidOut forecastStore turningStore bothStore tiesStore forecastLeft sellLine buyLine example table found expected before lexicographic withIndex gather insertBy sortBy ofSide pendingOn chain indices pendingCount headOr0 isNone rising every sameList nextIn chainIndices header recordWords dataWords afterByStop afterByWatermark withLinks recordsWords layout cell recordWord kindOf sideFrom entryAt slotAt slotsAt freeFrom bookOf consistent soundStop differs allDiffer vacantIndices valid areWords wellFormed sameId onTick behind beyond inconsistencyOf inconsistencyNumber candidate tightened ratcheted trailedAt elects electedAt electedEntry electedEntries countsOf pendingIn segmentQuestions segmentCall walkQuestions walkCall trailed leaves vacatedIf settled leavingOn leaver electedOn electedBy freed changedOn mover movedEntry movedOn movedBy fillAt point sellsFirst fallsTo andThen walkFrom segment lastOf walk firstNo decide stored storedBook emptyBook layOut named lookup isSome isPending withinWatermark notTriggered admissionQuestions admitted newEntry pathAfterAdmission admit closed
+unfolding price sequential terms plain closedPath admitFor admitInto segmentOver walkOver toldSeq toldCounts line movedLine segmentLines walkLines admissionLines laidOut forecastStore turningStore bothStore tiesStore forecastLeft sellLine buyLine example table found expected before lexicographic withIndex gather insertBy sortBy ofSide pendingOn chain indices pendingCount headOr0 isNone rising every sameList nextIn chainIndices header recordWords dataWords afterByStop afterByWatermark withLinks recordsWords layout cell recordWord kindOf sideFrom entryAt slotAt slotsAt freeFrom bookOf consistent soundStop differs allDiffer vacantIndices valid areWords wellFormed sameId onTick behind beyond inconsistencyOf inconsistencyNumber candidate tightened ratcheted trailedAt elects electedAt electedEntry electedEntries countsOf pendingIn segmentQuestions segmentCall walkQuestions walkCall trailed leaves vacatedIf settled leavingOn leaver electedOn electedBy freed changedOn mover movedEntry movedOn movedBy fillAt point sellsFirst fallsTo andThen walkFrom segment lastOf walk firstNo decide stored storedBook emptyBook layOut named lookup isSome isPending withinWatermark notTriggered admissionQuestions admitted newEntry pathAfterAdmission admit closed
 examples = refl

@@ -7,6 +7,7 @@ use mathlib.Core.List.{List, [], _∷_}
 use mathlib.Core.Option.{none}
 use borrow.Author.Tests.{ltb-true, leb-true, not-true}
 use lib.ListN.{length, set, drop, replicate, length-set, length-replicate}
+use Rattle.pricelevel.specs.declared.Holder.{Holder}
 use Rattle.pricelevel.specs.declared.Id.{Id}
 use Rattle.pricelevel.specs.declared.Quantity.{Quantity}
 use Rattle.stop_terms.specs.declared.StopTerms.{StopTerms}
@@ -134,13 +135,13 @@ admitted-count t b v room =
     (omega (arith, rw (r .vacant-there) at (pendingCount-set (b .slots) (r .place) (held t) (r .inside))))
 
 -- where every question of an admission is answered yes
-pub admission-admissible : (kill : Bool) (trade : LastPrice) (id : Id) (terms : StopTerms) (quantity : Quantity)
+pub admission-admissible : (kill : Bool) (trade : LastPrice) (id : Id) (terms : StopTerms) (quantity : Quantity) (holder : Holder)
     (w : List ℕ)
     → firstNo (admissionQuestions kill trade id terms quantity w) ≡ none
-    → (wellFormed w ≡ true) × Admissible (newEntry id terms quantity (bookOf w)) (bookOf w)
+    → (wellFormed w ≡ true) × Admissible (newEntry id terms quantity holder (bookOf w)) (bookOf w)
     × (bookOf w .next + 1 < 2 ^ 64)
 unfolding admissionQuestions newEntry
-admission-admissible kill trade id terms quantity w e =
+admission-admissible kill trade id terms quantity holder w e =
     let q = firstNo-none (admissionQuestions kill trade id terms quantity w) e in
     let store = q .1 .1 .1 .1 .1 .1 in (
       q .0,

@@ -117,6 +117,7 @@ trailed-fits price t h k = cases (behind (t .terms .side) (t .terms .watermark .
       trail = rw e (k .trail);
       quantity = k .quantity;
       seq = k .seq;
+      holder = k .holder;
     })
     (λ e. rw (trailed, e) k)
 

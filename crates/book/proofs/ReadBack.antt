@@ -64,6 +64,12 @@ slotAt-words w b i (held t) h words =
       };
       quantity = record { 0 = q x };
       seq = record { 0 = words 8 (omega arith) x };
+      holder = record {
+        0 = words 11 (omega arith) x;
+        1 = words 12 (omega arith) x;
+        2 = words 13 (omega arith) x;
+        3 = words 14 (omega arith) x;
+      };
     }))
 
 pub slotsAt-length : (w : List ℕ) (i k : ℕ) → length (slotsAt w i k) ≡ k

@@ -8,6 +8,7 @@ use native.Mathlib.Omega.{arith}
 use borrow.Table.Steps.{cases}
 use lib.Dec.{eqb}
 use Rattle.error.specs.Answer.{Answer, refused, accepted}
+use Rattle.pricelevel.specs.declared.Holder.{Holder}
 use Rattle.pricelevel.specs.declared.Id.{Id}
 use Rattle.pricelevel.specs.declared.Price.{Price}
 use Rattle.pricelevel.specs.declared.Quantity.{Quantity}
@@ -56,12 +57,12 @@ clear-refused w path r =
     decide-refused (λ (o : PathOutcome (Unit {0})). o .answer) (λ o. LeftAs w path o) _ _ _ r (λ k. (refl, refl))
     (λ q. absurd (accepted-refused _ q))
 
-pub admit-refused : (kill : Bool) (trade : LastPrice) (id : Id) (terms : StopTerms) (quantity : Quantity) (w : List ℕ)
+pub admit-refused : (kill : Bool) (trade : LastPrice) (id : Id) (terms : StopTerms) (quantity : Quantity) (holder : Holder) (w : List ℕ)
     (path : PrintPath)
-    → Refused (admit kill trade id terms quantity w path .answer)
-    → LeftAs w path (admit kill trade id terms quantity w path)
+    → Refused (admit kill trade id terms quantity holder w path .answer)
+    → LeftAs w path (admit kill trade id terms quantity holder w path)
 unfolding admit
-admit-refused kill trade id terms quantity w path r =
+admit-refused kill trade id terms quantity holder w path r =
     decide-refused (λ (o : PathOutcome Seq). o .answer) (λ o. LeftAs w path o) _ _ _ r (λ k. (refl, refl))
     (λ q. absurd (accepted-refused _ q))
 

@@ -121,4 +121,10 @@ slotAt-fits w i word = go (eqb (recordWord w i 7) 0)
       trail = word 6 (omega arith);
       quantity = word 7 (omega arith);
       seq = word 8 (omega arith);
+      holder = record {
+        first = word 11 (omega arith);
+        second = word 12 (omega arith);
+        third = word 13 (omega arith);
+        fourth = word 14 (omega arith);
+      };
     }

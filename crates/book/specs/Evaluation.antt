@@ -17,7 +17,7 @@ use Rattle.book.specs.declared.StopEntry.{StopEntry}
 
 -- a stop after trailing at a price
 unfoldable pub trailed : Price → StopEntry → StopEntry
-trailed price t = record { id = t .id; terms = trailedAt (t .terms) price; quantity = t .quantity; seq = t .seq }
+trailed price t = record { id = t .id; terms = trailedAt (t .terms) price; quantity = t .quantity; seq = t .seq; holder = t .holder }
 
 -- the kill switch lets stops trail, and lets none be elected
 unfoldable pub leaves : Bool → Price → StopEntry → Bool

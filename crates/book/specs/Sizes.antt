@@ -1,5 +1,5 @@
 -- The sizes of a store, of its records and of the entries of lists, in words: document 01, The store; One point, one
--- segment, one pass.
+-- segment, one pass. A record has the length of document 02, One.
 use Prim.Native.Nat.{ℕ, _+_, _*_, _<_}
 use mathlib.Core.Logic.{_≢_}
 
@@ -8,10 +8,10 @@ abbrev pub headerLength : ℕ
 headerLength = 9
 
 abbrev pub recordLength : ℕ
-recordLength = 11
+recordLength = 15
 
 abbrev pub mostRecords : ℕ
-mostRecords = 700
+mostRecords = 545
 
 -- the words of a store of n records
 abbrev pub storeLength : ℕ → ℕ
@@ -25,7 +25,7 @@ abbrev pub nextByWatermark : ℕ
 nextByWatermark = 10
 
 abbrev pub dataLength : ℕ
-dataLength = 9
+dataLength = 13
 
 pub record IsData (k : ℕ) : Type 0 where
   pub inside : k < recordLength

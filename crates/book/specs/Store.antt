@@ -9,6 +9,7 @@ use lib.ListN.{length, getD, set, drop, replicate}
 use Rattle.error.specs.Answer.{Answer, refused, accepted}
 use Rattle.pricelevel.specs.Identity.{sameId}
 use Rattle.pricelevel.specs.Tick.{onTick}
+use Rattle.pricelevel.specs.declared.Holder.{Holder}
 use Rattle.pricelevel.specs.declared.Id.{Id}
 use Rattle.pricelevel.specs.declared.Price.{Price}
 use Rattle.pricelevel.specs.declared.Quantity.{Quantity}
@@ -57,7 +58,7 @@ storedBook b w = stored (getD w 0 0) b w
 unfoldable pub emptyBook : ℕ → ℕ → Book
 emptyBook n tick = record { next = 0; tick = tick; slots = replicate n vacant; free = rising 1 n }
 
--- n from 1 to 700 and enough words? 2
+-- n from 1 to 545 and enough words? 2
 unfoldable pub layOut : ℕ → ℕ → List ℕ → StoreOutcome (Unit {0})
 layOut n tick w =
     decide (firstNo (question 2 (leb 1 n && (leb n mostRecords && leb (storeLength n) (length w))) ∷ []))
@@ -94,7 +95,7 @@ unfoldable pub find : Id → List ℕ → Answer (Option StopEntry)
 find id w = decide (firstNo (question 1 (wellFormed w) ∷ [])) refused (accepted (entryOf (lookup id (bookOf w))))
 
 ------------------------------------------------------------------------
--- Admission
+-- Admission: with a holder, of whom nothing is asked (document 02, One)
 
 -- the stop is on the right side of, or at, its watermark
 unfoldable pub withinWatermark : StopTerms → Bool
@@ -128,20 +129,26 @@ admitted t b = record {
   free = drop 1 (b .free);
 }
 
-unfoldable pub newEntry : Id → StopTerms → Quantity → Book → StopEntry
-newEntry id terms quantity b = record { id = id; terms = terms; quantity = quantity; seq = record { 0 = b .next } }
+unfoldable pub newEntry : Id → StopTerms → Quantity → Holder → Book → StopEntry
+newEntry id terms quantity holder b = record {
+  id = id;
+  terms = terms;
+  quantity = quantity;
+  seq = record { 0 = b .next };
+  holder = holder;
+}
 
 -- admission into an empty store resets the path
 unfoldable pub pathAfterAdmission : Book → PrintPath → PrintPath
 pathAfterAdmission b path = cond (eqb (pendingCount (b .slots)) 0) (closed path) path
 
-unfoldable pub admit : Bool → LastPrice → Id → StopTerms → Quantity → List ℕ → PrintPath → PathOutcome Seq
-admit kill trade id terms quantity w path =
+unfoldable pub admit : Bool → LastPrice → Id → StopTerms → Quantity → Holder → List ℕ → PrintPath → PathOutcome Seq
+admit kill trade id terms quantity holder w path =
     decide (firstNo (admissionQuestions kill trade id terms quantity w))
     (λ number. record { answer = refused number; words = w; path = path })
     (record {
       answer = accepted (record { 0 = bookOf w .next });
-      words = storedBook (admitted (newEntry id terms quantity (bookOf w)) (bookOf w)) w;
+      words = storedBook (admitted (newEntry id terms quantity holder (bookOf w)) (bookOf w)) w;
       path = pathAfterAdmission (bookOf w) path;
     })
 
@@ -163,7 +170,7 @@ cancel id w =
     (λ k. record { answer = refused k; words = w })
     (cancelFound (lookup id (bookOf w)) w)
 
--- the terms and the quantity after a change; watermark and trail stay
+-- the terms and the quantity after a change; watermark, trail and holder stay
 unfoldable pub withTerms : StopTerms → Side → Price → StopTerms
 withTerms t side stop = record { side = side; stop = stop; watermark = t .watermark; trail = t .trail }
 
@@ -215,6 +222,7 @@ changedEntry update t b = record {
   terms = changedTerms update t;
   quantity = changedQuantity update t;
   seq = cond (takesSequence update) (record { 0 = b .next }) (t .seq);
+  holder = t .holder;
 }
 
 unfoldable pub changed : OrderUpdate → Pending → Book → Book

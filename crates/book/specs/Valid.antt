@@ -5,6 +5,7 @@ use mathlib.Core.Path.{_≡_}
 use mathlib.Core.Bool.{true}
 use mathlib.Core.Option.{none}
 use lib.ListN.{length}
+use Rattle.pricelevel.specs.Holder.{HolderFits}
 use Rattle.pricelevel.specs.Tick.{onTick}
 use Rattle.book.specs.Book.{Slot, vacant, held, Book, seqOf, pendingCount}
 use Rattle.book.specs.Lists.{All}
@@ -29,6 +30,7 @@ pub record StopFits (t : StopEntry) : Type 0 where
   pub trail : t .terms .trail < 2 ^ 64
   pub quantity : t .quantity .0 < 2 ^ 64
   pub seq : t .seq .0 < 2 ^ 64
+  pub holder : HolderFits (t .holder)
 
 abbrev pub SlotFits : Slot → Type 0
 SlotFits vacant = Unit {0}

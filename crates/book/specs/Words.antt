@@ -1,9 +1,10 @@
--- The words of a book, and when words are well formed: document 01, The store.
+-- The words of a book, and when words are well formed: document 01, The store, with the holders of document 02, One.
 use Prim.Native.Nat.{ℕ, zero, suc, _+_, _-_, _*_, _^_}
 use mathlib.Core.Bool.{Bool, true, cond, not, _&&_}
 use mathlib.Core.List.{List, [], _∷_, _++_}
 use lib.Dec.{leb, ltb, eqb}
 use lib.ListN.{length, getD, take, drop, replicate}
+use Rattle.pricelevel.specs.Holder.{holderWords, holderOf}
 use Rattle.pricelevel.specs.Identity.{kindNumber, sameId}
 use Rattle.pricelevel.specs.Side.{sideNumber}
 use Rattle.pricelevel.specs.Tick.{onTick}
@@ -38,12 +39,12 @@ header b =
     ∷ headOr0 (b .free) ∷ []
 
 -- the words of a record that are no link: kind, identity high, identity low, side, stop, watermark, trail, quantity,
--- sequence; those of a free one are zero
+-- sequence, and behind the links the holder; those of a free one are zero
 unfoldable pub dataWords : Slot → List ℕ
 dataWords vacant = replicate dataLength 0
 dataWords (held t) =
     kindNumber (t .id .kind) ∷ t .id .high ∷ t .id .low ∷ sideNumber (sideOf t) ∷ stopOf t ∷ watermarkOf t ∷ t .terms .trail
-    ∷ t .quantity .0 ∷ seqOf t ∷ []
+    ∷ t .quantity .0 ∷ seqOf t ∷ holderWords (t .holder)
 
 -- the two links: the free chain goes through next by stop
 unfoldable pub afterByStop : Book → ℕ → Slot → ℕ
@@ -102,6 +103,7 @@ entryAt w i = record {
   };
   quantity = record { 0 = recordWord w i 7 };
   seq = record { 0 = recordWord w i 8 };
+  holder = holderOf (recordWord w i 11) (recordWord w i 12) (recordWord w i 13) (recordWord w i 14);
 }
 
 -- a pending record has a quantity of at least 1, a free one zero words

@@ -1,6 +1,7 @@
 // The book of pending stops: the types that its calls lend, take and answer, from orderbook-rs's stop_orders.rs. What
 // the calls mean stands in specs/, and what holds of them in proofs/; no code runs here.
 use error::Refusal;
+use pricelevel::Holder;
 use pricelevel::Id;
 use pricelevel::Price;
 use pricelevel::Quantity;
@@ -15,11 +16,11 @@ use uuid::Uuid;
 // its words; the others are data.
 pub const HEADER_WORDS: usize = 9;
 
-pub const RECORD_WORDS: usize = 11;
+pub const RECORD_WORDS: usize = 15;
 
-pub const MOST_RECORDS: usize = 700;
+pub const MOST_RECORDS: usize = 545;
 
-pub const DATA_WORDS: usize = 9;
+pub const DATA_WORDS: usize = 13;
 
 pub const NEXT_BY_STOP: usize = 9;
 
@@ -41,12 +42,13 @@ pub type ElectedWords = [u64; ELECTED_WORDS];
 
 pub type MovedWords = [u64; MOVED_WORDS];
 
-// A pending stop: its identity, its terms as they stand, its quantity and its admission sequence.
+// A pending stop: its identity, its terms as they stand, its quantity, its admission sequence and its holder.
 pub struct StopEntry {
     pub id: Id,
     pub terms: StopTerms,
     pub quantity: Quantity,
     pub seq: Seq,
+    pub holder: Holder,
 }
 
 // The four chains of a store: a side's stops by stop price, in the order of election, and by watermark, in the order of

@@ -1,3 +1,4 @@
+pub mod Holder
 pub mod Identity
 pub mod Price
 pub mod Side

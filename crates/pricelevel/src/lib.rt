@@ -1,6 +1,7 @@
-// The value types that orderbook-rs takes from its crate pricelevel: prices, quantities, sides and identities, at 64
-// bits; and the admission sequence, which document 01 makes a kind of number of its own.
+// The value types that orderbook-rs takes from its crate pricelevel: prices, quantities, sides, identities and holders, at
+// 64 bits; and the admission sequence, which document 01 makes a kind of number of its own.
 ghost use mathlib.Core.Path.{_≡_};
+ghost use Rattle.pricelevel.specs.Holder.{sameHolder};
 ghost use Rattle.pricelevel.specs.Identity.{kindNumber, sameId};
 ghost use Rattle.pricelevel.specs.Side.{sideNumber};
 ghost use Rattle.pricelevel.specs.Tick.{onTick};
@@ -73,6 +74,27 @@ impl Id {
             return false;
         }
         self.low == other.low
+    }
+}
+
+// Who holds a stop: 32 bytes as four big-endian words, the Rust's Hash32.
+pub struct Holder(pub u64, pub u64, pub u64, pub u64);
+
+impl Holder {
+    // Whether two holders are equal, in all four words.
+    pub fn eq(self, other: Holder) -> bool
+        ensures { λ r. ⌜ r ≡ sameHolder self other ⌝ }
+    {
+        if self.0 != other.0 {
+            return false;
+        }
+        if self.1 != other.1 {
+            return false;
+        }
+        if self.2 != other.2 {
+            return false;
+        }
+        self.3 == other.3
     }
 }
 
