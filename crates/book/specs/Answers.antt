@@ -1,10 +1,13 @@
 -- What the calls answer, in document 01's terms: accepted with what is answered, or refused with its number.
+use Prim.Native.Nat.{ℕ}
 use mathlib.Core.Option.{Option, none, some}
 use Rattle.error.specs.Answer.{Answer, refused, accepted}
 use Rattle.error.specs.Refusal.{refusalNumber}
 use Rattle.pricelevel.specs.declared.Seq.{Seq}
 use Rattle.book.specs.declared.AdmissionAnswer.{AdmissionAnswer}
 use Rattle.book.specs.declared.AdmissionAnswer.the-variants as admission
+use Rattle.book.specs.declared.CollectAnswer.{CollectAnswer}
+use Rattle.book.specs.declared.CollectAnswer.the-variants as collected
 use Rattle.book.specs.declared.Counts.{Counts}
 use Rattle.book.specs.declared.EvaluationAnswer.{EvaluationAnswer}
 use Rattle.book.specs.declared.EvaluationAnswer.the-variants as evaluation
@@ -42,6 +45,10 @@ toldFind (search.Err e) = refused (refusalNumber e)
 unfoldable pub toldQuantity : QuantityAnswer → Answer Totals
 toldQuantity (quantity.Ok t) = accepted t
 toldQuantity (quantity.Err e) = refused (refusalNumber e)
+
+unfoldable pub toldCollect : CollectAnswer → Answer ℕ
+toldCollect (collected.Ok n) = accepted n
+toldCollect (collected.Err e) = refused (refusalNumber e)
 
 unfoldable pub toldCounts : EvaluationAnswer → Answer Counts
 toldCounts (evaluation.Ok c) = accepted c

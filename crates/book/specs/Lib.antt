@@ -2,8 +2,10 @@ pub mod Answers
 pub mod Book
 pub mod Calls
 pub mod Chains
+pub mod Collect
 pub mod Entries
 pub mod Evaluation
+pub mod Holders
 pub mod Lists
 pub mod Path
 pub mod Runs

@@ -33,6 +33,11 @@ unfoldable pub every : {A : Type 0} → (A → Bool) → List A → Bool
 every p [] = true
 every p (x ∷ l) = p x && every p l
 
+-- the elements that pass a test, in their order
+unfoldable pub filter : {A : Type 0} → (A → Bool) → List A → List A
+filter keeps [] = []
+filter keeps (x ∷ l) = cond (keeps x) (x ∷ filter keeps l) (filter keeps l)
+
 unfoldable pub sameList : List ℕ → List ℕ → Bool
 sameList [] [] = true
 sameList [] (y ∷ m) = false

@@ -24,6 +24,10 @@ nextByStop = 9
 abbrev pub nextByWatermark : ℕ
 nextByWatermark = 10
 
+-- the holder's words stand behind the links, to the end of the record
+abbrev pub firstHolderWord : ℕ
+firstHolderWord = 11
+
 abbrev pub dataLength : ℕ
 dataLength = 13
 

@@ -38,6 +38,11 @@ pub const MOVED_WORDS: usize = 4;
 
 pub const MOST_MOVES: usize = 2 * MOST_RECORDS;
 
+// A list of collected stops has a record's data words.
+pub const COLLECTED_WORDS: usize = DATA_WORDS;
+
+pub type CollectedWords = [u64; COLLECTED_WORDS];
+
 pub type ElectedWords = [u64; ELECTED_WORDS];
 
 pub type MovedWords = [u64; MOVED_WORDS];
@@ -70,6 +75,13 @@ pub enum OrderUpdate {
     UpdatePrice(Price),
     UpdatePriceAndQuantity(Price, Quantity),
     Replace(Side, Price, Quantity),
+}
+
+// Which pending stops to collect: those of one holder, of one side, or with a stop price from the lowest to the highest.
+pub enum Selector {
+    ByHolder(Holder),
+    BySide(Side),
+    ByPriceRange(Price, Price),
 }
 
 // A price that may be absent: the last trade, or the price that a sweep arrived from.
@@ -153,6 +165,12 @@ pub enum StopAnswer {
 pub enum FindAnswer {
     Found(StopEntry),
     None,
+    Err(Refusal),
+}
+
+// What collect and mass_cancel answer: how many stops they listed, or why they were refused.
+pub enum CollectAnswer {
+    Ok(u64),
     Err(Refusal),
 }
 

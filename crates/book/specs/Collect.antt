@@ -1,0 +1,85 @@
+-- The pending stops by rising sequence, the collected ones among them, and their cancel: document 02, One; the order
+-- serves its other requests too.
+use Prim.Native.Nat.{ℕ}
+use mathlib.Core.Bool.{Bool, cond, _&&_}
+use mathlib.Core.List.{List, [], _∷_, map}
+use mathlib.Core.Option.{Option, none, some}
+use lib.Dec.{leb, ltb, eqb}
+use lib.ListN.{length}
+use Rattle.error.specs.Answer.{Answer, refused, accepted}
+use Rattle.error.specs.Questions.{Question, question, firstNo, decide}
+use Rattle.pricelevel.specs.Holder.{sameHolder}
+use Rattle.pricelevel.specs.Side.{sideNumber}
+use Rattle.book.specs.Book.{Slot, vacant, held, Book, Pending, gather, entries, sideOf, stopOf, seqOf}
+use Rattle.book.specs.Calls.{pendingIn}
+use Rattle.book.specs.Lists.{sortBy, filter}
+use Rattle.book.specs.Store.{storedBook, vacated}
+use Rattle.book.specs.Words.{dataWords, bookOf, wellFormed}
+use Rattle.book.specs.declared.Selector.{Selector}
+use Rattle.book.specs.declared.Selector.the-variants.{ByHolder, BySide, ByPriceRange}
+use Rattle.book.specs.declared.StopEntry.{StopEntry}
+
+------------------------------------------------------------------------
+-- By sequence
+
+unfoldable pub pendingStop : Slot → Option StopEntry
+pendingStop vacant = none
+pendingStop (held t) = some t
+
+unfoldable pub admittedEarlier : StopEntry → StopEntry → Bool
+admittedEarlier x y = ltb (seqOf x) (seqOf y)
+
+-- the pending stops in rising sequence, with the indices of their records
+unfoldable pub bySequence : List Slot → List Pending
+bySequence ss = sortBy (λ p q. admittedEarlier (p .entry) (q .entry)) (gather pendingStop 1 ss)
+
+------------------------------------------------------------------------
+-- Collect
+
+-- the stops of one holder, one side, or a closed range of stop prices
+unfoldable pub selects : Selector → StopEntry → Bool
+selects (ByHolder h) t = sameHolder h (t .holder)
+selects (BySide side) t = eqb (sideNumber side) (sideNumber (sideOf t))
+selects (ByPriceRange lowest highest) t = leb (lowest .0) (stopOf t) && leb (stopOf t) (highest .0)
+
+-- by rising sequence
+unfoldable pub selected : Selector → List Slot → List Pending
+selected selector ss = filter (λ p. selects selector (p .entry)) (bySequence ss)
+
+-- an entry of a list: the record without its next indices
+unfoldable pub collectedWords : StopEntry → List ℕ
+collectedWords t = dataWords (held t)
+
+-- the list at least count entries? 14
+unfoldable pub collectQuestions : List ℕ → ℕ → List Question
+collectQuestions w list = question 1 (wellFormed w) ∷ question 14 (leb (pendingIn w) list) ∷ []
+
+-- how many are listed, the words after the call, and the stops that it lists
+pub record CollectOutcome : Type 0 where
+  pub answer : Answer ℕ
+  pub words : List ℕ
+  pub listed : List StopEntry
+
+-- the store is only read
+unfoldable pub collect : Selector → List ℕ → ℕ → CollectOutcome
+collect selector w list =
+    let l : List Pending = selected selector (bookOf w .slots) in
+    decide (firstNo (collectQuestions w list))
+    (λ k. record { answer = refused k; words = w; listed = [] })
+    (record { answer = accepted (length l); words = w; listed = entries l })
+
+------------------------------------------------------------------------
+-- Mass cancel
+
+-- the book after the stops of a list went out, one after the other
+unfoldable pub vacatedEach : List Pending → Book → Book
+vacatedEach [] b = b
+vacatedEach (p ∷ l) b = vacatedEach l (vacated (p .index) b)
+
+-- the same list, and then a cancel of each in that order
+unfoldable pub massCancel : Selector → List ℕ → ℕ → CollectOutcome
+massCancel selector w list =
+    let l : List Pending = selected selector (bookOf w .slots) in
+    decide (firstNo (collectQuestions w list))
+    (λ k. record { answer = refused k; words = w; listed = [] })
+    (record { answer = accepted (length l); words = storedBook (vacatedEach l (bookOf w)) w; listed = entries l })
