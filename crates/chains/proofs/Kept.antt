@@ -77,6 +77,10 @@ kept-entry n w v k i low =
       same 6 (omega arith),
       same 7 (omega arith),
       same 8 (omega arith),
+      same 11 (omega arith),
+      same 12 (omega arith),
+      same 13 (omega arith),
+      same 14 (omega arith),
     )
 
 pub kept-rank : (n : ℕ) (w v : List ℕ) → Kept n w v → (c : Chain) (i : ℕ) → 1 ≤ i → rankAt c v i ≡ rankAt c w i

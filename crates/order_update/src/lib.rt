@@ -108,6 +108,7 @@ pub fn changed_entry(update: OrderUpdate, t: StopEntry, next: u64) -> StopEntry
     ensures { λ r. ⌜ ((b : Book) → b .next ≡ next → r ≡ changedEntry update t b) ⌝ }
 {
     let id = t.id;
+    let holder = t.holder;
     let terms = changed_terms(update, t);
     let quantity = changed_quantity(update, t);
     let mut seq = t.seq;
@@ -119,6 +120,7 @@ pub fn changed_entry(update: OrderUpdate, t: StopEntry, next: u64) -> StopEntry
         terms: terms,
         quantity: quantity,
         seq: seq,
+        holder: holder,
     }
 }
 

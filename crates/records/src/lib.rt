@@ -13,7 +13,7 @@ ghost use lib.Dec.{ltb};
 ghost use lib.ListN.{length};
 ghost use lib.Seq.{sets};
 ghost use Rattle.book.specs.Words.{cell, recordWord};
-ghost use Rattle.book.specs.Sizes.{mostRecords, recordLength};
+ghost use Rattle.book.specs.Sizes.{headerLength, mostRecords, recordLength};
 ghost use Rattle.chains.specs.Rank.{pair, rankAt};
 ghost use Rattle.chains.specs.Records.{Record};
 ghost use Rattle.book.specs.Chains.{headOf, linkOf};
@@ -25,7 +25,7 @@ ghost use Rattle.book.specs.Chains.{headOf, linkOf};
 pub fn cell(i: u64, k: usize) -> usize
     requires { ⌜ (1 ≤ i) × (i ≤ mostRecords) × (k < recordLength) ⌝ }
     ensures { λ r. ⌜ r ≡ cell i k ⌝ }
-    ensures { λ r. ⌜ r + 2 ≡ recordLength * i + k ⌝ }
+    ensures { λ r. ⌜ r + recordLength ≡ headerLength + recordLength * i + k ⌝ }
 {
     HEADER_WORDS + RECORD_WORDS * (i as usize - 1) + k
 }
