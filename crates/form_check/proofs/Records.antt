@@ -102,7 +102,13 @@ module _ (w : List ℕ) (i : ℕ) where
                           zero 8 (omega arith),
                           (
                             links Free (rw s),
-                            (zeros nextByWatermark (omega arith) (omega arith), tt),
+                            (
+                              zeros nextByWatermark (omega arith) (omega arith),
+                              (
+                                zero 11 (omega arith),
+                                (zero 12 (omega arith), (zero 13 (omega arith), (zero 14 (omega arith), tt))),
+                              ),
+                            ),
                           ),
                         ),
                       ),
@@ -125,7 +131,7 @@ module _ (w : List ℕ) (i : ℕ) where
               refl,
               (
                 sym (sideNumber-from _ side),
-                (refl, (refl, (refl, (refl, (refl, (stop, (watermark, tt))))))),
+                (refl, (refl, (refl, (refl, (refl, (stop, (watermark, (refl, (refl, (refl, (refl, tt))))))))))),
               ),
             ),
           ),
@@ -153,7 +159,7 @@ module _ (w : List ℕ) (i : ℕ) where
                       λ n. refl,
                       (
                         λ n. absurd (n refl),
-                        (λ n. refl, tt),
+                        (λ n. refl, (λ n. refl, (λ n. refl, (λ n. refl, (λ n. refl, tt))))),
                       ),
                     ),
                   ),

@@ -13,7 +13,7 @@ ghost use Rattle.chains.specs.Records.{Record};
 fn free_words(next: u64) -> [u64; RECORD_WORDS]
     ensures { λ r. ⌜ r ≡ withLinks (dataWords vacant) next 0 ⌝ }
 {
-    [0, 0, 0, 0, 0, 0, 0, 0, 0, next, 0]
+    [0, 0, 0, 0, 0, 0, 0, 0, 0, next, 0, 0, 0, 0, 0]
 }
 
 // The words of a record that holds a stop and is linked to none.
@@ -24,6 +24,7 @@ fn entry_words(t: StopEntry) -> [u64; RECORD_WORDS]
     let kind = id.kind;
     let terms = t.terms;
     let side = terms.side;
+    let holder = t.holder;
     [
         kind.number() as u64,
         id.high,
@@ -36,6 +37,10 @@ fn entry_words(t: StopEntry) -> [u64; RECORD_WORDS]
         t.seq.0,
         0,
         0,
+        holder.0,
+        holder.1,
+        holder.2,
+        holder.3,
     ]
 }
 

@@ -2,6 +2,7 @@
 use book::Chain;
 use book::NEXT_BY_STOP;
 use book::StopEntry;
+use pricelevel::Holder;
 use pricelevel::Id;
 use pricelevel::IdKind;
 use pricelevel::Price;
@@ -76,6 +77,18 @@ pub fn terms_at(s: &[u64], n: u64, i: u64) -> StopTerms
     }
 }
 
+// The holder in record i.
+fn holder_at(s: &[u64], n: u64, i: u64) -> Holder
+    requires { ⌜ Record n (now s) i ⌝ }
+    ensures { λ r. ⌜ r ≡ entryAt (now (s .entry)) i .holder ⌝ }
+{
+    let first = word(s, n, i, 11);
+    let second = word(s, n, i, 12);
+    let third = word(s, n, i, 13);
+    let fourth = word(s, n, i, 14);
+    Holder(first, second, third, fourth)
+}
+
 // The stop in record i.
 pub fn entry_at(s: &[u64], n: u64, i: u64) -> StopEntry
     requires { ⌜ Record n (now s) i ⌝ }
@@ -85,11 +98,13 @@ pub fn entry_at(s: &[u64], n: u64, i: u64) -> StopEntry
     let terms = terms_at(s, n, i);
     let quantity = word(s, n, i, 7);
     let seq = word(s, n, i, 8);
+    let holder = holder_at(s, n, i);
     StopEntry {
         id: id,
         terms: terms,
         quantity: Quantity(quantity),
         seq: Seq(seq),
+        holder: holder,
     }
 }
 
