@@ -6,6 +6,7 @@ use mathlib.Core.Path.{_≡_, refl, sym, ap, _∙_}
 use mathlib.Core.List.{List, [], _∷_}
 use lib.ListN.{length, getD, set, drop, length-set}
 use lib.Seq.{set-set, set-getD, sets, length-sets}
+use Rattle.pricelevel.specs.declared.Holder.{Holder}
 use Rattle.pricelevel.specs.declared.Id.{Id}
 use Rattle.pricelevel.specs.declared.Quantity.{Quantity}
 use Rattle.stop_terms.specs.declared.StopTerms.{StopTerms}
@@ -67,13 +68,13 @@ module _ (n : ℕ) (w : List ℕ) (b : Book) (r : List ℕ) (st : Stored n w b r
         contents-next one next (rw length-set (omega (arith, stored-room st)))
 
 module _ (n : ℕ) (w : List ℕ) (b : Book) (r : List ℕ) (st : Stored n w b r) (id : Id) (terms : StopTerms)
-    (quantity : Quantity)
-    (a : Admissible (newEntry id terms quantity b) b) (count next : ℕ)
+    (quantity : Quantity) (holder : Holder)
+    (a : Admissible (newEntry id terms quantity holder b) b) (count next : ℕ)
     (w2 : List ℕ) (k2 : Kept n (w1 n w b r st (a .room) count next) w2) (i : ℕ)
     (p2 : (ch : StoreChain → List ℕ) (j : ℕ) (l : List ℕ) → Chained n (w1 n w b r st (a .room) count next) ch → ch Free ≡ j ∷ l
     → (i ≡ j) × Ready n w2 (upd Free l ch) j) where
   abbrev t : StopEntry
-  t = newEntry id terms quantity b
+  t = newEntry id terms quantity holder b
 
   popped : (i ≡ headOr0 (b .free)) × Ready n w2 (upd Free (drop 1 (b .free)) (chainsOf b)) (headOr0 (b .free))
   popped = p2 (chainsOf b) (headOr0 (b .free)) (drop 1 (b .free)) (occupying-chained n w b r st (a .room) count next)
@@ -111,7 +112,13 @@ module _ (n : ℕ) (w : List ℕ) (b : Book) (r : List ℕ) (st : Stored n w b r
   unfolding admitted
   entry-slots = rw (popped .0)
 
-  new-entry : held t ≡ held (record { id = id; terms = terms; quantity = quantity; seq = record { 0 = getD w 2 0 } })
+  new-entry : held t ≡ held (record {
+    id = id;
+    terms = terms;
+    quantity = quantity;
+    seq = record { 0 = getD w 2 0 };
+    holder = holder;
+  })
   unfolding newEntry
   new-entry = rw (next-word n w b r st (a .room))
 
@@ -120,6 +127,7 @@ module _ (n : ℕ) (w : List ℕ) (b : Book) (r : List ℕ) (st : Stored n w b r
     terms = terms;
     quantity = quantity;
     seq = record { 0 = getD w 2 0 };
+    holder = holder;
   })) 0 0)) where
     entry-words : w3 ≡ sets w2 (cell i 0) (recordOf (held t) 0 0)
     entry-words = rw new-entry e3

@@ -141,6 +141,12 @@ module _ {n : ℕ} {w : List ℕ} {count next tick : ℕ} {ss : List Slot} {r : 
         };
         quantity = record { 0 = word 7 (omega arith) x };
         seq = record { 0 = word 8 (omega arith) x };
+        holder = record {
+          0 = word 11 (omega arith) x;
+          1 = word 12 (omega arith) x;
+          2 = word 13 (omega arith) x;
+          3 = word 14 (omega arith) x;
+        };
       }
 
   pub contents-rank : (c : Chain) (i : ℕ) (t : StopEntry) → 1 ≤ i → i ≤ n → getD ss (i - 1) vacant ≡ held t

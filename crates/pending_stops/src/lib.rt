@@ -1,5 +1,6 @@
 // The operations that change a store: a stop out, a stop in, a stop changed.
 use book::StopEntry;
+use pricelevel::Holder;
 use pricelevel::Id;
 use pricelevel::Quantity;
 use pricelevel::Seq;
@@ -49,10 +50,10 @@ pub fn change(s: &mut [u64], n: u64, i: u64, side: Side, t: StopEntry, next: u64
 }
 
 // Takes a stop in, in the first free record, with the next sequence, which it answers.
-pub fn occupy(s: &mut [u64], n: u64, id: Id, terms: StopTerms, quantity: Quantity) -> Seq
-    requires { ⌜ ((b : Book) × (r : List ℕ) × Stored n (now s) b r × Admissible (newEntry id terms quantity b) b × (b .next + 1 < 2 ^ 64)) ⌝ }
-    ensures { λ q. ⌜ ((b : Book) (r : List ℕ) → Stored n (now (s .entry)) b r → Admissible (newEntry id terms quantity b) b → b .next + 1 < 2 ^ 64
-        → (q .0 ≡ b .next) × Stored n (now (s .exit)) (admitted (newEntry id terms quantity b) b) r) ⌝ }
+pub fn occupy(s: &mut [u64], n: u64, id: Id, terms: StopTerms, quantity: Quantity, holder: Holder) -> Seq
+    requires { ⌜ ((b : Book) × (r : List ℕ) × Stored n (now s) b r × Admissible (newEntry id terms quantity holder b) b × (b .next + 1 < 2 ^ 64)) ⌝ }
+    ensures { λ q. ⌜ ((b : Book) (r : List ℕ) → Stored n (now (s .entry)) b r → Admissible (newEntry id terms quantity holder b) b → b .next + 1 < 2 ^ 64
+        → (q .0 ≡ b .next) × Stored n (now (s .exit)) (admitted (newEntry id terms quantity holder b) b) r) ⌝ }
 {
     let count = s[1];
     let next = s[2];
@@ -64,6 +65,7 @@ pub fn occupy(s: &mut [u64], n: u64, id: Id, terms: StopTerms, quantity: Quantit
         terms: terms,
         quantity: quantity,
         seq: Seq(next),
+        holder: holder,
     };
     write_entry(s, n, i, t);
     let side = terms.side;

@@ -44,15 +44,15 @@ write-entry-requires : tie.Need-write-entry-requires
 write-entry-requires c κs =
     let taken = c .before .before .before in
     let (b, r, st, a, last) = taken .before .before .before .before .before .pre in
-    occupying-record _ _ b r st _ _ _ a _ _ _ (taken .pop .ensures .0) _ (taken .pop .ensures .1)
+    occupying-record _ _ b r st _ _ _ _ a _ _ _ (taken .pop .ensures .0) _ (taken .pop .ensures .1)
 
 link-requires : tie.Need-link-requires
 link-requires c κs =
     let stored = c .before .before .before in
     let taken = stored .before .before .before .before in
     let (b, r, st, a, last) = taken .before .before .before .before .before .pre in (
-      chainsWithout _ (admitted (newEntry _ _ _ b) b),
-      occupying-ready _ _ b r st _ _ _ a _ _ _ (taken .pop .ensures .0) _ (taken .pop .ensures .1) _
+      chainsWithout _ (admitted (newEntry _ _ _ _ b) b),
+      occupying-ready _ _ b r st _ _ _ _ a _ _ _ (taken .pop .ensures .0) _ (taken .pop .ensures .1) _
           (stored .write-entry .ensures),
     )
 
@@ -62,7 +62,7 @@ same-length c =
     let stored = linked .before .before .before .before in
     let taken = stored .before .before .before .before in
     let (b, r, st, a, last) = taken .before .before .before .before .before .pre in
-    occupied-length _ _ b r st _ _ _ a _ _ _ (taken .pop .ensures .0) _ (taken .pop .ensures .1) _
+    occupied-length _ _ b r st _ _ _ _ a _ _ _ (taken .pop .ensures .0) _ (taken .pop .ensures .1) _
     (stored .write-entry .ensures) _ (linked .link .ensures .0)
 
 returns : tie.Need-returns
@@ -74,7 +74,7 @@ returns c =
     let start = taken .before .before .before .before .before in
     λ b r st a last. (
       next-word _ _ b r st (a .room),
-      occupied-stored _ _ b r st _ _ _ a _ _ _ (taken .pop .ensures .0) _ (taken .pop .ensures .1) _
+      occupied-stored _ _ b r st _ _ _ _ a _ _ _ (taken .pop .ensures .0) _ (taken .pop .ensures .1) _
           (stored .write-entry .ensures)
           (record {
             high = omega (arith, start .good);
@@ -84,6 +84,12 @@ returns c =
             trail = omega (arith, start .good);
             quantity = omega (arith, start .good);
             seq = st .fits .next;
+            holder = record {
+              first = omega (arith, start .good);
+              second = omega (arith, start .good);
+              third = omega (arith, start .good);
+              fourth = omega (arith, start .good);
+            };
           })
           last refl refl _ (linked .link .ensures .0) (linked .link .ensures .1),
     )
