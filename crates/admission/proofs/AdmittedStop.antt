@@ -7,11 +7,12 @@ use mathlib.Core.Option.{none, some}
 use lib.Dec.{eqb}
 use lib.ListN.{getD}
 use Rattle.error.specs.Answer.{refused, accepted}
+use Rattle.pricelevel.specs.declared.Holder.{Holder}
 use Rattle.pricelevel.specs.declared.Id.{Id}
 use Rattle.pricelevel.specs.declared.Quantity.{Quantity}
 use Rattle.pricelevel.specs.declared.Seq.{Seq}
 use Rattle.stop_terms.specs.declared.StopTerms.{StopTerms}
-use Rattle.book.proofs.Operations.{admission-admissible}
+use Rattle.book.proofs.Operations.{admission-formed}
 use Rattle.book.specs.Path.{closed}
 use Rattle.error.specs.Questions.{firstNo, decide}
 use Rattle.book.specs.Store.{PathOutcome, admissionQuestions, newEntry, admitted, pathAfterAdmission, admit}
@@ -21,10 +22,10 @@ use Rattle.book.specs.declared.PrintPath.{PrintPath}
 use Rattle.pending_stops.proofs.Found.{beyond, stored-words, wellFormed-stored, count-word}
 use Rattle.pending_stops.specs.Stored.{Stored}
 
-module _ (kill : Bool) (trade : LastPrice) (id : Id) (terms : StopTerms) (quantity : Quantity) (w : List ℕ)
-    (path : PrintPath) where
+module _ (kill : Bool) (trade : LastPrice) (id : Id) (terms : StopTerms) (quantity : Quantity) (holder : Holder)
+    (w : List ℕ) (path : PrintPath) where
   abbrev outcome : PathOutcome Seq
-  outcome = admit kill trade id terms quantity w path
+  outcome = admit kill trade id terms quantity holder w path
 
   abbrev told : ℕ → Seq
   told s = record { 0 = s }
@@ -37,15 +38,15 @@ module _ (kill : Bool) (trade : LastPrice) (id : Id) (terms : StopTerms) (quanti
   pub admit-done : none ≡ firstNo (admissionQuestions kill trade id terms quantity w) → (q : Seq)
       → q .0 ≡ bookOf w .next
       → (after : PrintPath) → after ≡ cond (eqb (getD w 1 0) 0) (closed path) path
-      → (u : List ℕ) → Stored (getD w 0 0) u (admitted (newEntry id terms quantity (bookOf w)) (bookOf w)) (beyond w)
+      → (u : List ℕ) → Stored (getD w 0 0) u (admitted (newEntry id terms quantity holder (bookOf w)) (bookOf w)) (beyond w)
       → (accepted q ≡ outcome .answer) × ((after ≡ outcome .path) × (u ≡ outcome .words))
   unfolding admit decide pathAfterAdmission
   admit-done h q e after p u st =
-      let formed = admission-admissible kill trade id terms quantity w (sym h) .0 in (
+      let formed = admission-formed kill trade id terms quantity w (sym h) in (
         rw (← h) (ap (λ (s : ℕ). accepted (told s)) e),
         (
           rw (← h, ← count-word (wellFormed-stored w formed)) p,
           rw (← h)
-              (stored-words w u (admitted (newEntry id terms quantity (bookOf w)) (bookOf w)) st),
+              (stored-words w u (admitted (newEntry id terms quantity holder (bookOf w)) (bookOf w)) st),
         ),
       )

@@ -9,6 +9,7 @@ use error::Refusal;
 use error::Verdict;
 use form::well_formed;
 use pending_stops::occupy;
+use pricelevel::Holder;
 use pricelevel::Id;
 use pricelevel::Quantity;
 use pricelevel::on_tick;
@@ -89,7 +90,7 @@ fn path_after(path: PrintPath, pending: u64) -> PrintPath
     path
 }
 
-// Admits a stop. Refused: the store is not well formed (1); the kill switch is on (3); quantity (4) or trail (5) zero;
+// Admits a stop for its holder. Refused: the store is not well formed (1); the kill switch is on (3); quantity (4) or trail (5) zero;
 // the stop beyond its watermark (6) or elected by the last trade (7); its identity pending (8); the trail off the tick
 // (9); no free record (10); no sequence left (11).
 pub fn admit_trailing_stop(
@@ -100,10 +101,11 @@ pub fn admit_trailing_stop(
     id: Id,
     terms: StopTerms,
     quantity: Quantity,
+    holder: Holder,
 ) -> Admission
-    ensures { λ r. ⌜ toldAdmission (r .answer) ≡ admit kill trade id terms quantity (now (s .entry)) path .answer ⌝ }
-    ensures { λ r. ⌜ r .path ≡ admit kill trade id terms quantity (now (s .entry)) path .path ⌝ }
-    ensures { λ _. ⌜ now (s .exit) ≡ admit kill trade id terms quantity (now (s .entry)) path .words ⌝ }
+    ensures { λ r. ⌜ toldAdmission (r .answer) ≡ admit kill trade id terms quantity holder (now (s .entry)) path .answer ⌝ }
+    ensures { λ r. ⌜ r .path ≡ admit kill trade id terms quantity holder (now (s .entry)) path .path ⌝ }
+    ensures { λ _. ⌜ now (s .exit) ≡ admit kill trade id terms quantity holder (now (s .entry)) path .words ⌝ }
 {
     let verdict = ask_admission(&s[..], kill, trade, id, terms, quantity);
     match verdict {
@@ -114,7 +116,7 @@ pub fn admit_trailing_stop(
         Verdict::Accepted => {
             let n = s[0];
             let after = path_after(path, s[1]);
-            let seq = occupy(s, n, id, terms, quantity);
+            let seq = occupy(s, n, id, terms, quantity, holder);
             Admission {
                 answer: AdmissionAnswer::Ok(seq),
                 path: after,

@@ -135,6 +135,11 @@ admitted-count t b v room =
     (omega (arith, rw (r .vacant-there) at (pendingCount-set (b .slots) (r .place) (held t) (r .inside))))
 
 -- where every question of an admission is answered yes
+pub admission-formed : (kill : Bool) (trade : LastPrice) (id : Id) (terms : StopTerms) (quantity : Quantity) (w : List ℕ)
+    → firstNo (admissionQuestions kill trade id terms quantity w) ≡ none → wellFormed w ≡ true
+unfolding admissionQuestions
+admission-formed kill trade id terms quantity w e = firstNo-none (admissionQuestions kill trade id terms quantity w) e .0
+
 pub admission-admissible : (kill : Bool) (trade : LastPrice) (id : Id) (terms : StopTerms) (quantity : Quantity) (holder : Holder)
     (w : List ℕ)
     → firstNo (admissionQuestions kill trade id terms quantity w) ≡ none
