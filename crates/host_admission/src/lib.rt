@@ -1,11 +1,13 @@
 // Admission for hosts: every argument as words. `yubtomiq` says what it does.
 use book::AdmissionAnswer;
+use host_words::HolderWords;
 use host_words::UNKNOWN;
 use path_words::last_price_of;
 use path_words::path_known;
 use path_words::path_of;
 use path_words::path_words;
 use pricelevel::Quantity;
+use term_words::holder_of;
 use term_words::id_known;
 use term_words::id_of;
 use term_words::terms_known;
@@ -35,9 +37,10 @@ pub fn admit_trailing_stop(
     id: &[u64; 3],
     terms: &[u64; 4],
     quantity: u64,
+    holder: &HolderWords,
     answer: &mut [u64; 1],
 ) -> u64
-    ensures { λ r. ⌜ (let o = admitByWords kill (now (trade .entry)) (now (id .entry)) (now (terms .entry)) quantity (now (s .entry)) (now (path .entry)) in
+    ensures { λ r. ⌜ (let o = admitByWords kill (now (trade .entry)) (now (id .entry)) (now (terms .entry)) quantity (now (holder .entry)) (now (s .entry)) (now (path .entry)) in
         Told seqWords (o .answer) (now (answer .entry)) r (now (answer .exit))
         × (now (s .exit) ≡ o .words)
         × (now (path .exit) ≡ o .path)) ⌝ }
@@ -59,6 +62,7 @@ pub fn admit_trailing_stop(
         id_of(id),
         terms_of(terms),
         Quantity(quantity),
+        holder_of(holder),
     );
     let after = admitted.path;
     *path = path_words(after);

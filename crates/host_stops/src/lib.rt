@@ -1,4 +1,6 @@
 // Change, cancel and search for hosts: every argument as words. `yubtomiq` says what each call does.
+use host_words::FoundWords;
+use host_words::StopWords;
 use host_words::UNKNOWN;
 use path_words::last_price_of;
 use stop_words::of_find;
@@ -16,7 +18,7 @@ pub fn update_pending_stop(
     id: &[u64; 3],
     update: &[u64; 4],
     trade: &[u64; 2],
-    answer: &mut [u64; 9],
+    answer: &mut StopWords,
 ) -> u64
     ensures { λ r. ⌜ (let o = updateByWords (now (id .entry)) (now (update .entry)) (now (trade .entry)) (now (s .entry)) in
         Told stopWords (o .answer) (now (answer .entry)) r (now (answer .exit))
@@ -35,7 +37,7 @@ pub fn update_pending_stop(
     of_stop(changed, answer)
 }
 
-pub fn cancel_pending_stop(s: &mut [u64], id: &[u64; 3], answer: &mut [u64; 9]) -> u64
+pub fn cancel_pending_stop(s: &mut [u64], id: &[u64; 3], answer: &mut StopWords) -> u64
     ensures { λ r. ⌜ (let o = cancelByWords (now (id .entry)) (now (s .entry)) in
         Told stopWords (o .answer) (now (answer .entry)) r (now (answer .exit))
         × (now (s .exit) ≡ o .words)) ⌝ }
@@ -48,7 +50,7 @@ pub fn cancel_pending_stop(s: &mut [u64], id: &[u64; 3], answer: &mut [u64; 9]) 
     of_stop(cancelled, answer)
 }
 
-pub fn pending_stop_order(s: &[u64], id: &[u64; 3], answer: &mut [u64; 10]) -> u64
+pub fn pending_stop_order(s: &[u64], id: &[u64; 3], answer: &mut FoundWords) -> u64
     ensures { λ r. ⌜ Told foundWords (findByWords (now (id .entry)) (now (s .entry))) (now (answer .entry)) r (now (answer .exit)) ⌝ }
 {
     if !id_known(id) {

@@ -35,12 +35,12 @@ module _ (a b p f : ℕ) (w : List ℕ) where
   abbrev Left : {A : Type 0} → HostOutcome A → Type 0
   Left o = Refused (o .answer) → (o .words ≡ w) × (o .path ≡ path)
 
-  pub admit-refused-stays : (kill : ℕ) (trade id terms : List ℕ) (quantity : ℕ)
-      → Left (admitByWords kill trade id terms quantity w path)
-  admit-refused-stays kill trade id terms quantity =
+  pub admit-refused-stays : (kill : ℕ) (trade id terms : List ℕ) (quantity : ℕ) (holder : List ℕ)
+      → Left (admitByWords kill trade id terms quantity holder w path)
+  admit-refused-stays kill trade id terms quantity holder =
       either (λ o. Left o) (idKnown id && (termsKnown terms && pathKnown path)) _ _
       (λ e r. let known = and-parts (termsKnown terms) _ (and-parts (idKnown id) _ e .1) .1 in
-      let t = admit-refused (isOn kill) (lastPriceOf trade) (idOf id) (termsOf terms) _ w (pathOf path) r in
+      let t = admit-refused (isOn kill) (lastPriceOf trade) (idOf id) (termsOf terms) _ _ w (pathOf path) r in
       (t .0, ap pathWords (t .1) ∙ pathWords-pathOf known)) (λ r. (refl, refl))
 
   pub clear-refused-stays : Left (clearByWords w path)

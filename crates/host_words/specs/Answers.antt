@@ -1,5 +1,5 @@
 -- The words of what a call answers.
-use Prim.Native.Nat.{ℕ}
+use Prim.Native.Nat.{ℕ, _+_}
 use mathlib.Core.Bool.{Bool, cond}
 use mathlib.Core.List.{List, [], _∷_, _++_}
 use mathlib.Core.Option.{Option, none, some}
@@ -14,6 +14,9 @@ use Rattle.repricing.specs.declared.Adjustment.{Adjustment}
 use Rattle.stop_protection.specs.declared.Limit.{Limit}
 use Rattle.stop_protection.specs.declared.Limit.the-variants as limit
 use Rattle.stop_terms.specs.declared.StopTerms.{StopTerms}
+use Rattle.book.specs.Book.{held}
+use Rattle.book.specs.Sizes.{dataLength}
+use Rattle.book.specs.Words.{dataWords}
 use Rattle.book.specs.declared.Counts.{Counts}
 use Rattle.book.specs.declared.PassCounts.{PassCounts}
 use Rattle.book.specs.declared.Totals.{Totals}
@@ -57,11 +60,9 @@ idWords id = kindNumber (id .kind) ∷ id .high ∷ id .low ∷ []
 abbrev pub termsWords : StopTerms → List ℕ
 termsWords t = sideNumber (t .side) ∷ t .stop .0 ∷ t .watermark .0 ∷ t .trail ∷ []
 
--- kind, high, low, side, stop, watermark, trail, quantity, sequence: the order of a stored record's words
+-- kind, high, low, side, stop, watermark, trail, quantity, sequence, holder: the stored record without its next indices
 abbrev pub stopWords : StopEntry → List ℕ
-stopWords t =
-    kindNumber (t .id .kind) ∷ t .id .high ∷ t .id .low ∷ sideNumber (t .terms .side) ∷ t .terms .stop .0 ∷ t .terms .watermark .0
-    ∷ t .terms .trail ∷ t .quantity .0 ∷ t .seq .0 ∷ []
+stopWords t = dataWords (held t)
 
 -- open, prev present, prev, first
 abbrev pub pathWords : PrintPath → List ℕ
@@ -79,12 +80,16 @@ segmentWords (some s) = 1 ∷ (priceWords (s .prev) ++ (s .first .0 ∷ s .last 
 
 -- found (0, 1), and the words of the stop or zeros
 abbrev pub foundWords : Option StopEntry → List ℕ
-foundWords none = replicate 10 0
+foundWords none = replicate (1 + dataLength) 0
 foundWords (some t) = 1 ∷ stopWords t
 
 -- of the sells high, low; of the buys high, low
 abbrev pub totalsWords : Totals → List ℕ
 totalsWords t = t .sell .high ∷ t .sell .low ∷ t .buy .high ∷ t .buy .low ∷ []
+
+-- how many were listed
+abbrev pub listedWords : ℕ → List ℕ
+listedWords n = n ∷ []
 
 -- moves, elected
 abbrev pub countsWords : Counts → List ℕ

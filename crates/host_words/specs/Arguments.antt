@@ -1,4 +1,4 @@
--- What the words of an argument stand for. Those of a kind, a side, a change and a path's flags may be unknown; any but
+-- What the words of an argument stand for. Those of a kind, a side, a change, a selector and a path's flags may be unknown; any but
 -- 0 is on for a kill switch and for a price that may be absent.
 use Prim.Native.Nat.{ℕ}
 use mathlib.Core.Bool.{Bool, not, cond, _&&_, _||_}
@@ -6,6 +6,8 @@ use mathlib.Core.List.{List}
 use lib.Dec.{leb, eqb}
 use lib.ListN.{getD}
 use Rattle.error.specs.Answer.{Answer, refused, accepted}
+use Rattle.pricelevel.specs.Holder.{holderOf}
+use Rattle.pricelevel.specs.declared.Holder.{Holder}
 use Rattle.pricelevel.specs.declared.Id.{Id}
 use Rattle.pricelevel.specs.declared.Price.{Price}
 use Rattle.pricelevel.specs.declared.Quantity.{Quantity}
@@ -22,6 +24,8 @@ use Rattle.book.specs.declared.OrderUpdate.{OrderUpdate}
 use Rattle.book.specs.declared.OrderUpdate.the-variants.{UpdateQuantity, UpdatePrice, UpdatePriceAndQuantity, Replace}
 use Rattle.book.specs.declared.PrintPath.{PrintPath}
 use Rattle.book.specs.declared.PrintSegment.{PrintSegment}
+use Rattle.book.specs.declared.Selector.{Selector}
+use Rattle.book.specs.declared.Selector.the-variants.{ByHolder, BySide, ByPriceRange}
 use Rattle.book.specs.declared.Settings.{Settings}
 
 abbrev pub isOn : ℕ → Bool
@@ -46,6 +50,10 @@ termsKnown w = sideKnown (getD w 0 0)
 
 abbrev pub termsOf : List ℕ → StopTerms
 termsOf w = record { side = sideFrom (getD w 0 0); stop = price (getD w 1 0); watermark = price (getD w 2 0); trail = getD w 3 0 }
+
+-- document 02, One: a holder is four words
+abbrev pub holderFrom : List ℕ → Holder
+holderFrom w = holderOf (getD w 0 0) (getD w 1 0) (getD w 2 0) (getD w 3 0)
 
 -- a price that may be absent: present, price
 abbrev pub lastPriceFrom : ℕ → ℕ → LastPrice
@@ -79,6 +87,16 @@ updateFrom change side p quantity =
 
 abbrev pub updateOf : List ℕ → OrderUpdate
 updateOf w = updateFrom (getD w 0 0) (getD w 1 0) (price (getD w 2 0)) (record { 0 = getD w 3 0 })
+
+-- document 02, One: which stops (0 of a holder, 1 of a side, 2 in a range of stop prices), and the holder's four words,
+-- the side, or the lowest and the highest price. Of these only what is asked for is read
+abbrev pub selectorKnown : List ℕ → Bool
+selectorKnown w = leb (getD w 0 0) 2 && (not (eqb (getD w 0 0) 1) || sideKnown (getD w 1 0))
+
+abbrev pub selectorOf : List ℕ → Selector
+selectorOf w =
+    cond (eqb (getD w 0 0) 0) (ByHolder (holderOf (getD w 1 0) (getD w 2 0) (getD w 3 0) (getD w 4 0)))
+    (cond (eqb (getD w 0 0) 1) (BySide (sideFrom (getD w 1 0))) (ByPriceRange (price (getD w 1 0)) (price (getD w 2 0))))
 
 -- a collar of 0, which cannot be made, is none
 abbrev pub protectionBy : Answer StopProtection → Protection

@@ -18,6 +18,7 @@ use Rattle.stop_trigger.specs.Child.{childId}
 use Rattle.book.specs.Calls.{SegmentOutcome, segmentCall, WalkOutcome, walkCall, PassOutcome, passCall, runCall}
 use Rattle.book.specs.declared.PassCounts.{PassCounts}
 use Rattle.book.specs.Calls as calls
+use Rattle.book.specs.Collect.{CollectOutcome, collect, massCancel}
 use Rattle.book.specs.Path.{recorded, closed, take}
 use Rattle.book.specs.Store.{StoreOutcome, PathOutcome, admit, cancel, clear, find}
 use Rattle.book.specs.Store as store
@@ -28,7 +29,7 @@ use Rattle.book.specs.declared.PrintSegment.{PrintSegment}
 use Rattle.book.specs.declared.StopEntry.{StopEntry}
 use Rattle.pricelevel.specs.Price.{toPrice}
 use Rattle.host_words.specs.Answers.{flag, orZero, pathWords}
-use Rattle.host_words.specs.Arguments.{isOn, price, idKnown, idOf, sideKnown, termsKnown, termsOf, lastPriceOf, printsOf, pathKnown, pathOf, updateKnown, updateOf, protectionOf, namespaceOf, settingsOf}
+use Rattle.host_words.specs.Arguments.{isOn, price, idKnown, idOf, sideKnown, termsKnown, termsOf, holderFrom, selectorKnown, selectorOf, lastPriceOf, printsOf, pathKnown, pathOf, updateKnown, updateOf, protectionOf, namespaceOf, settingsOf}
 
 abbrev pub unknown : {A : Type 0} → Answer A
 unknown = refused 255
@@ -49,10 +50,11 @@ pub record HostOutcome (A : Type 0) : Type 0 where
 abbrev pub hosted : {A : Type 0} → PathOutcome A → HostOutcome A
 hosted o = record { answer = o .answer; words = o .words; path = pathWords (o .path) }
 
-abbrev pub admitByWords : ℕ → List ℕ → List ℕ → List ℕ → ℕ → List ℕ → List ℕ → HostOutcome Seq
-admitByWords kill trade id terms quantity w path =
+abbrev pub admitByWords : ℕ → List ℕ → List ℕ → List ℕ → ℕ → List ℕ → List ℕ → List ℕ → HostOutcome Seq
+admitByWords kill trade id terms quantity holder w path =
     cond (idKnown id && (termsKnown terms && pathKnown path))
-    (hosted (admit (isOn kill) (lastPriceOf trade) (idOf id) (termsOf terms) (record { 0 = quantity }) w (pathOf path)))
+    (hosted (admit (isOn kill) (lastPriceOf trade) (idOf id) (termsOf terms) (record { 0 = quantity }) (holderFrom holder) w
+    (pathOf path)))
     (record { answer = unknown; words = w; path = path })
 
 abbrev pub clearByWords : List ℕ → List ℕ → HostOutcome (Unit {0})
@@ -71,6 +73,15 @@ updateByWords id update trade w =
 
 abbrev pub findByWords : List ℕ → List ℕ → Answer (Option StopEntry)
 findByWords id w = cond (idKnown id) (find (idOf id) w) unknown
+
+abbrev pub collectByWords : List ℕ → List ℕ → ℕ → CollectOutcome
+collectByWords selector w list =
+    cond (selectorKnown selector) (collect (selectorOf selector) w list) (record { answer = unknown; words = w; listed = [] })
+
+abbrev pub massCancelByWords : List ℕ → List ℕ → ℕ → CollectOutcome
+massCancelByWords selector w list =
+    cond (selectorKnown selector) (massCancel (selectorOf selector) w list)
+    (record { answer = unknown; words = w; listed = [] })
 
 ------------------------------------------------------------------------
 -- The print path

@@ -3,6 +3,7 @@ use book::AdmissionAnswer;
 use book::LastPrice;
 use book::LayoutAnswer;
 use book::PrintPath;
+use pricelevel::Holder;
 use pricelevel::Id;
 use pricelevel::Quantity;
 use stop_terms::StopTerms;
@@ -10,7 +11,7 @@ ghost use mathlib.Core.Path.{_≡_};
 ghost use Rattle.book.specs.Answers.{toldAdmission, toldLayout};
 ghost use Rattle.book.specs.Store.{clear, admit};
 
-// Admits a stop. Refused: the store is not well formed (1); the kill switch is on (3); quantity (4) or trail (5) zero;
+// Admits a stop for its holder. Refused: the store is not well formed (1); the kill switch is on (3); quantity (4) or trail (5) zero;
 // the stop beyond its watermark (6) or elected by the last trade (7); its identity pending (8); the trail off the tick
 // (9); no free record (10); no sequence left (11).
 pub fn admit_trailing_stop(
@@ -21,12 +22,13 @@ pub fn admit_trailing_stop(
     id: Id,
     terms: StopTerms,
     quantity: Quantity,
+    holder: Holder,
 ) -> AdmissionAnswer
-    ensures { λ r. ⌜ toldAdmission r ≡ admit kill trade id terms quantity (now (s .entry)) (now (path .entry)) .answer ⌝ }
-    ensures { λ _. ⌜ now (path .exit) ≡ admit kill trade id terms quantity (now (s .entry)) (now (path .entry)) .path ⌝ }
-    ensures { λ _. ⌜ now (s .exit) ≡ admit kill trade id terms quantity (now (s .entry)) (now (path .entry)) .words ⌝ }
+    ensures { λ r. ⌜ toldAdmission r ≡ admit kill trade id terms quantity holder (now (s .entry)) (now (path .entry)) .answer ⌝ }
+    ensures { λ _. ⌜ now (path .exit) ≡ admit kill trade id terms quantity holder (now (s .entry)) (now (path .entry)) .path ⌝ }
+    ensures { λ _. ⌜ now (s .exit) ≡ admit kill trade id terms quantity holder (now (s .entry)) (now (path .entry)) .words ⌝ }
 {
-    let admission = admission::admit_trailing_stop(s, *path, kill, trade, id, terms, quantity);
+    let admission = admission::admit_trailing_stop(s, *path, kill, trade, id, terms, quantity, holder);
     *path = admission.path;
     admission.answer
 }

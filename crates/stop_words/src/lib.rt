@@ -3,6 +3,9 @@ use book::FindAnswer;
 use book::OrderUpdate;
 use book::StopAnswer;
 use book::StopEntry;
+use host_words::FOUND_WORDS;
+use host_words::FoundWords;
+use host_words::StopWords;
 use pricelevel::Price;
 use pricelevel::Quantity;
 use stored_stops::side_from;
@@ -42,11 +45,12 @@ pub fn update_of(w: &[u64; 4]) -> OrderUpdate
     }
 }
 
-fn stop_words(t: StopEntry) -> [u64; 9]
+fn stop_words(t: StopEntry) -> StopWords
     ensures { λ r. ⌜ r ≡ stopWords t ⌝ }
 {
     let id = id_words(t.id);
     let terms = terms_words(t.terms);
+    let holder = t.holder;
     [
         id[0],
         id[1],
@@ -57,10 +61,14 @@ fn stop_words(t: StopEntry) -> [u64; 9]
         terms[3],
         t.quantity.0,
         t.seq.0,
+        holder.0,
+        holder.1,
+        holder.2,
+        holder.3,
     ]
 }
 
-pub fn of_stop(r: StopAnswer, answer: &mut [u64; 9]) -> u64
+pub fn of_stop(r: StopAnswer, answer: &mut StopWords) -> u64
     ensures { λ k. ⌜ Told stopWords (toldStop r) (now (answer .entry)) k (now (answer .exit)) ⌝ }
 {
     match r {
@@ -72,17 +80,19 @@ pub fn of_stop(r: StopAnswer, answer: &mut [u64; 9]) -> u64
     }
 }
 
-pub fn of_find(r: FindAnswer, answer: &mut [u64; 10]) -> u64
+pub fn of_find(r: FindAnswer, answer: &mut FoundWords) -> u64
     ensures { λ k. ⌜ Told foundWords (toldFind r) (now (answer .entry)) k (now (answer .exit)) ⌝ }
 {
     match r {
         FindAnswer::Found(t) => {
             let w = stop_words(t);
-            *answer = [1, w[0], w[1], w[2], w[3], w[4], w[5], w[6], w[7], w[8]];
+            *answer = [
+                1, w[0], w[1], w[2], w[3], w[4], w[5], w[6], w[7], w[8], w[9], w[10], w[11], w[12],
+            ];
             0
         }
         FindAnswer::None => {
-            *answer = [0, 0, 0, 0, 0, 0, 0, 0, 0, 0];
+            *answer = [0; FOUND_WORDS];
             0
         }
         FindAnswer::Err(e) => e.number(),

@@ -1,12 +1,14 @@
-// The words of an identity, a side and terms: whether each value is known, what they stand for, and back.
+// The words of an identity, a side, terms and a holder: whether each value is known, what they stand for, and back.
+use host_words::HolderWords;
+use pricelevel::Holder;
 use pricelevel::Id;
 use pricelevel::Price;
 use stop_terms::StopTerms;
 use stored_stops::kind_of;
 use stored_stops::side_from;
 ghost use mathlib.Core.Path.{_≡_};
-ghost use Rattle.host_words.specs.Arguments.{idKnown, idOf, sideKnown, termsKnown, termsOf};
-ghost use Rattle.host_words.specs.Answers.{number, idWords, termsWords};
+ghost use Rattle.host_words.specs.Arguments.{idKnown, idOf, sideKnown, termsKnown, termsOf, holderFrom};
+ghost use Rattle.host_words.specs.Answers.{idWords, termsWords};
 
 // ---------------------------------------------------------------------
 // Identity, side and terms
@@ -50,6 +52,12 @@ pub fn terms_of(w: &[u64; 4]) -> StopTerms
         watermark: Price(w[2]),
         trail: w[3],
     }
+}
+
+pub fn holder_of(w: &HolderWords) -> Holder
+    ensures { λ r. ⌜ r ≡ holderFrom (now (w .entry)) ⌝ }
+{
+    Holder(w[0], w[1], w[2], w[3])
 }
 
 // ---------------------------------------------------------------------

@@ -30,6 +30,9 @@ TermsOf = struct terms.StopTerms.the-type terms.StopTerms.Laws.the-laws terms.St
 abbrev pub QuantityOf : Plain
 QuantityOf = struct level.Quantity.the-type level.Quantity.Laws.the-laws level.Quantity.Laws.the-plain (λ d l. refl)
 
+abbrev pub HolderOf : Plain
+HolderOf = struct level.Holder.the-type level.Holder.Laws.the-laws level.Holder.Laws.the-plain (λ d l. refl)
+
 abbrev pub NextOf : Plain
 NextOf = enum path.NextSegment.the-type path.NextSegment.Laws.the-laws path.NextSegment.Laws.the-plain tt (λ d l. refl)
 

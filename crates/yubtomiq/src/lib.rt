@@ -4,6 +4,9 @@
 use book::ElectedWords;
 use book::MovedWords;
 use error::Refusal;
+use host_words::FoundWords;
+use host_words::HolderWords;
+use host_words::StopWords;
 ghost use mathlib.Core.List.{map, _++_};
 ghost use mathlib.Core.Path.{_≡_};
 ghost use lib.ListN.{length};
@@ -39,7 +42,7 @@ pub extern "C" fn yubtomiq_well_formed(s: &[u64]) -> u64
     host_store::well_formed(s)
 }
 
-// Admits a stop, and answers its sequence. Refused: 255, 1, 3 to 11.
+// Admits a stop for its holder, and answers its sequence. Refused: 255, 1, 3 to 11.
 #[no_mangle]
 pub extern "C" fn yubtomiq_admit_trailing_stop(
     s: &mut [u64],
@@ -49,14 +52,15 @@ pub extern "C" fn yubtomiq_admit_trailing_stop(
     id: &[u64; 3],
     terms: &[u64; 4],
     quantity: u64,
+    holder: &HolderWords,
     answer: &mut [u64; 1],
 ) -> u64
-    ensures { λ r. ⌜ (let o = admitByWords kill (now (trade .entry)) (now (id .entry)) (now (terms .entry)) quantity (now (s .entry)) (now (path .entry)) in
+    ensures { λ r. ⌜ (let o = admitByWords kill (now (trade .entry)) (now (id .entry)) (now (terms .entry)) quantity (now (holder .entry)) (now (s .entry)) (now (path .entry)) in
         Told seqWords (o .answer) (now (answer .entry)) r (now (answer .exit))
         × (now (s .exit) ≡ o .words)
         × (now (path .exit) ≡ o .path)) ⌝ }
 {
-    host_admission::admit_trailing_stop(s, path, kill, trade, id, terms, quantity, answer)
+    host_admission::admit_trailing_stop(s, path, kill, trade, id, terms, quantity, holder, answer)
 }
 
 // Changes the pending stop of an identity, and answers it after the change, or before it where a quantity of zero
@@ -67,7 +71,7 @@ pub extern "C" fn yubtomiq_update_pending_stop(
     id: &[u64; 3],
     update: &[u64; 4],
     trade: &[u64; 2],
-    answer: &mut [u64; 9],
+    answer: &mut StopWords,
 ) -> u64
     ensures { λ r. ⌜ (let o = updateByWords (now (id .entry)) (now (update .entry)) (now (trade .entry)) (now (s .entry)) in
         Told stopWords (o .answer) (now (answer .entry)) r (now (answer .exit))
@@ -81,7 +85,7 @@ pub extern "C" fn yubtomiq_update_pending_stop(
 pub extern "C" fn yubtomiq_cancel_pending_stop(
     s: &mut [u64],
     id: &[u64; 3],
-    answer: &mut [u64; 9],
+    answer: &mut StopWords,
 ) -> u64
     ensures { λ r. ⌜ (let o = cancelByWords (now (id .entry)) (now (s .entry)) in
         Told stopWords (o .answer) (now (answer .entry)) r (now (answer .exit))
@@ -95,7 +99,7 @@ pub extern "C" fn yubtomiq_cancel_pending_stop(
 pub extern "C" fn yubtomiq_pending_stop_order(
     s: &[u64],
     id: &[u64; 3],
-    answer: &mut [u64; 10],
+    answer: &mut FoundWords,
 ) -> u64
     ensures { λ r. ⌜ Told foundWords (findByWords (now (id .entry)) (now (s .entry))) (now (answer .entry)) r (now (answer .exit)) ⌝ }
 {

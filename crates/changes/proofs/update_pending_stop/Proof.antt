@@ -94,6 +94,12 @@ change-requires c κs =
         trail = omega (arith, n .before .changed-entry .ok);
         quantity = omega (arith, n .before .changed-entry .ok);
         seq = omega (arith, n .before .changed-entry .ok);
+        holder = record {
+          first = omega (arith, n .before .changed-entry .ok);
+          second = omega (arith, n .before .changed-entry .ok);
+          third = omega (arith, n .before .changed-entry .ok);
+          fourth = omega (arith, n .before .changed-entry .ok);
+        };
       }) (omega (arith, n .next-after .ok)),
     )
 
@@ -139,6 +145,12 @@ returns-5 c =
       trail = omega (arith, n .before .changed-entry .ok);
       quantity = omega (arith, n .before .changed-entry .ok);
       seq = omega (arith, n .before .changed-entry .ok);
+      holder = record {
+        first = omega (arith, n .before .changed-entry .ok);
+        second = omega (arith, n .before .changed-entry .ok);
+        third = omega (arith, n .before .changed-entry .ok);
+        fourth = omega (arith, n .before .changed-entry .ok);
+      };
     }) (omega (arith, n .next-after .ok))))
 
 pub update-pending-stop-spec : {M : Type 1} → statement M

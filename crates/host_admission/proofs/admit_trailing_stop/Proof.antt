@@ -27,7 +27,7 @@ returns-3 c =
 returns-4 : tie.Need-returns-4
 returns-4 c =
     let a = c .before .before .before .before .before .before in
-    let i = a .before .before in
+    let i = a .before .before .before in
     let b = i .before .before in
     let p = b .before .before .before in
     let t = p .before .before .before in
@@ -39,7 +39,7 @@ returns-4 c =
     let terms = is-known (t .before .terms-known .ensures) (t .if2 .left) in
     let path = is-known (p .before .path-known .ensures) (p .if3 .left) in
     rw (id, terms, path, ← b .path-of .ensures, ← i .before .last-price-of .ensures, ← i .id-of .ensures)
-    (rw (← a .before .terms-of .ensures) (told, admitted .1 .1, path-left))
+    (rw (← a .before .before .terms-of .ensures, ← a .before .holder-of .ensures) (told, admitted .1 .1, path-left))
 
 pub admit-trailing-stop-spec : {M : Type 1} → statement M
 unfolding number answered
@@ -48,4 +48,4 @@ admit-trailing-stop-spec =
     (λ c. rw (is-unknown (c .before .id-known .ensures) (c .if1 .taken)) ((refl, refl), refl, refl))
     (λ c κs. search needs) returns-2 (λ c κs. search needs) returns-3 (λ c κs. search needs) (λ c κs. search needs)
     (λ c κs. search needs) (λ c κs. search needs) (λ c κs. search needs) (λ c κs. search needs) (λ c κs. search needs)
-    (λ c. search needs) returns-4)
+    (λ c κs. search needs) (λ c. search needs) returns-4)

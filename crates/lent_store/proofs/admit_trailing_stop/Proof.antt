@@ -10,13 +10,13 @@ use Rattle.walks.proofs.Lending.{relends}
 use Rattle.walks.proofs.Lent.{opened, closed}
 use Rattle.walks.proofs.Params.{values, lent, lent-struct}
 use Rattle.walks.proofs.Plain.{Plain, flag}
-use Rattle.walks.proofs.Types.{PathOf, LastOf, IdOf, TermsOf, QuantityOf, AdmittedOf, AdmissionOf, admission-parts}
+use Rattle.walks.proofs.Types.{PathOf, LastOf, IdOf, TermsOf, QuantityOf, HolderOf, AdmittedOf, AdmissionOf, admission-parts}
 use Rattle.admission.proofs.admit_trailing_stop as core
 use Rattle.lent_store.proofs.admit_trailing_stop as f
 
 -- the parameters after the path
 abbrev Ps : List Plain
-Ps = flag ∷ LastOf ∷ IdOf ∷ TermsOf ∷ QuantityOf ∷ []
+Ps = flag ∷ LastOf ∷ IdOf ∷ TermsOf ∷ QuantityOf ∷ HolderOf ∷ []
 
 abbrev Admission : Form
 Admission = record {
@@ -25,7 +25,8 @@ Admission = record {
   result = AdmissionOf;
   asks = λ κs a. [];
   tells = λ κs a r e. let v = a .1 .1 in
-      let o = admit (v .0) (v .1 .0) (v .1 .1 .0) (v .1 .1 .1 .0) (v .1 .1 .1 .1 .0) (a .0 .now) (a .1 .0) in
+      let o = admit (v .0) (v .1 .0) (v .1 .1 .0) (v .1 .1 .1 .0) (v .1 .1 .1 .1 .0) (v .1 .1 .1 .1 .1 .0) (a .0 .now)
+      (a .1 .0) in
       (toldAdmission (r .answer) ≡ o .answer) ∷ (r .path ≡ o .path) ∷ (e .0 .now ≡ o .words) ∷ [];
 }
 
@@ -36,7 +37,8 @@ Admits = record {
   result = AdmittedOf;
   asks = λ κs a. [];
   tells = λ κs a r e. let v = a .1 .1 in
-      let o = admit (v .0) (v .1 .0) (v .1 .1 .0) (v .1 .1 .1 .0) (v .1 .1 .1 .1 .0) (a .0 .now) (a .1 .0 .now) in
+      let o = admit (v .0) (v .1 .0) (v .1 .1 .0) (v .1 .1 .1 .0) (v .1 .1 .1 .1 .0) (v .1 .1 .1 .1 .1 .0) (a .0 .now)
+      (a .1 .0 .now) in
       (toldAdmission r ≡ o .answer) ∷ (e .1 .0 .now ≡ o .path) ∷ (e .0 .now ≡ o .words) ∷ [];
 }
 
@@ -54,18 +56,18 @@ admit-trailing-stop-spec 𝓤 H 𝓜 𝓖 𝓡 =
     enters ! (𝓣 .C) (𝓣 .Λ) f.Code.function _ (store-fits, ((tt, tt), typeds 𝓤 H A W Ps (a .1 .1) (are .1 .1))) (λ bs.
     move ! (1 ∷ 3 ∷ []) $ opened PathOf ! tt (named 1) x (λ was.
     -- [the path's cell; the open borrow; obs; auth; the store's token; what it owns; the locals (6)]
-    relends ! 6 1 9 refl refl refl (tt, tt) refl refl refl store-fits $
+    relends ! 6 1 10 refl refl refl (tt, tt) refl refl refl store-fits $
     assigns ! (of-opd ! (load ! (from ! (hop ! (reads-at ! 8 refl) (stop !))) (look-raw ! 0 refl))) (from ! (stop !))
-    (sets ! 17 refl (PathOf .typed 𝓤 H A W _ _ was)) $ move ! (4 ∷ 5 ∷ []) $
+    (sets ! 18 refl (PathOf .typed 𝓤 H A W _ _ was)) $ move ! (4 ∷ 5 ∷ []) $
     calls Admission ! (fmOf 𝓤 H (W .laws) 𝓣) (known Admission callee f.Code.calls-admission·admit-trailing-stop)
     (κs .0, tt) (qs .0, tt) (a .0, (x .now, a .1 .1)) (was, are .1 .1) tt
-    (copied ! 15 refl (copied ! 16 refl (copied ! 8 refl (copied ! 9 refl (copied ! 10 refl (copied ! 11 refl
-    (copied ! 12 refl (no-more !)))))))) (λ d zs is e. let parts = admission-parts d is in
-    move ! (2 ∷ 3 ∷ 4 ∷ 5 ∷ []) $ land ! (from ! (stop !)) (sets ! 14 refl (AdmissionOf .typed 𝓤 H A W d _ is)) $
-    assigns ! (of-opd ! (second-of ! 14 refl refl)) (from ! (hop ! (reads-at ! 8 refl) (stop !)))
+    (copied ! 16 refl (copied ! 17 refl (copied ! 8 refl (copied ! 9 refl (copied ! 10 refl (copied ! 11 refl
+    (copied ! 12 refl (copied ! 13 refl (no-more !))))))))) (λ d zs is e. let parts = admission-parts d is in
+    move ! (2 ∷ 3 ∷ 4 ∷ 5 ∷ []) $ land ! (from ! (stop !)) (sets ! 15 refl (AdmissionOf .typed 𝓤 H A W d _ is)) $
+    assigns ! (of-opd ! (second-of ! 15 refl refl)) (from ! (hop ! (reads-at ! 8 refl) (stop !)))
     (store-raw ! 0 refl (PathOf .typed 𝓤 H A W (d .path) _ (parts .1))) $
-    assigns ! (of-opd ! (first-of ! 14 refl refl)) (from ! (stop !)) (sets ! 6 refl
+    assigns ! (of-opd ! (first-of ! 15 refl refl)) (from ! (stop !)) (sets ! 6 refl
     (AdmittedOf .typed 𝓤 H A W (d .answer) _ (parts .0))) $
     closed PathOf ! tt x (d .path) (parts .1) $ leaves ! 4 (full _ ∷ full _ ∷ full _ ∷ full _ ∷ full _ ∷ full _ ∷ full _
-    ∷ full _ ∷ full _ ∷ full _ ∷ full _ ∷ full _ ∷ []) refl tt refl $ move ! (2 ∷ 0 ∷ 3 ∷ 1 ∷ []) $
-    by ! (ends Admits 𝓤 H A κs qs a W (d .answer) (parts .0) (zs .0, (d .path, (tt, (tt, (tt, (tt, (tt, tt))))))) e)))))
+    ∷ full _ ∷ full _ ∷ full _ ∷ full _ ∷ full _ ∷ full _ ∷ []) refl tt refl $ move ! (2 ∷ 0 ∷ 3 ∷ 1 ∷ []) $
+    by ! (ends Admits 𝓤 H A κs qs a W (d .answer) (parts .0) (zs .0, (d .path, (tt, (tt, (tt, (tt, (tt, (tt, tt)))))))) e)))))
