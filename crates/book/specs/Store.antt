@@ -58,7 +58,7 @@ storedBook b w = stored (getD w 0 0) b w
 unfoldable pub emptyBook : ℕ → ℕ → Book
 emptyBook n tick = record { next = 0; tick = tick; slots = replicate n vacant; free = rising 1 n }
 
--- n from 1 to 545 and enough words? 2
+-- n from 1 to the most records, and enough words? 2
 unfoldable pub layOut : ℕ → ℕ → List ℕ → StoreOutcome (Unit {0})
 layOut n tick w =
     decide (firstNo (question 2 (leb 1 n && (leb n mostRecords && leb (storeLength n) (length w))) ∷ []))

@@ -33,7 +33,7 @@ wordCount bytes = cond (eqb (length bytes % 8) 0) (length bytes / 8) 0
 unfoldable pub wordsOf : List ℕ → List ℕ
 wordsOf bytes = wordsAt bytes 0 (wordCount bytes)
 
--- the length of the store that the first word names, of at most 700 records
+-- the length of the store that the first word names, of at most `mostRecords` records
 abbrev pub namedLength : List ℕ → ℕ
 namedLength w = storeLength (min (getD w 0 0) mostRecords)
 

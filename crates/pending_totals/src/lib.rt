@@ -1,4 +1,4 @@
-// The pending quantity of each side, in two words, as a sum of 700 words may need more than one.
+// The pending quantity of each side, in two words, as a sum of that many words may need more than one.
 use book::Totals;
 use book::TwoWords;
 use pricelevel::Side;

@@ -44,7 +44,7 @@ pub use stop_terms::Inconsistency;
 pub use stop_terms::StopTerms;
 pub use uuid::Uuid;
 
-// Lays a store of n records and a tick, 0 for none, out in lent words. Refused: n is not 1 to 700, or there are too few
+// Lays a store of n records and a tick, 0 for none, out in lent words. Refused: n is not 1 to 545, or there are too few
 // words (2).
 pub use store_layout::layout_store;
 

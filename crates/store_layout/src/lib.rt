@@ -51,7 +51,7 @@ pub fn lay_out(s: &mut [u64], n: u64, tick: u64)
     }
 }
 
-// Whether n is from 1 to 700, and so many words have room for n records.
+// Whether n is from 1 to MOST_RECORDS, and so many words have room for n records.
 fn has_room(n: u64, words: usize) -> bool
     ensures { λ r. ⌜ r ≡ (leb 1 n && (leb n mostRecords && leb (storeLength n) words)) ⌝ }
 {
@@ -64,7 +64,7 @@ fn has_room(n: u64, words: usize) -> bool
     HEADER_WORDS + RECORD_WORDS * (n as usize) <= words
 }
 
-// Lays out an empty store of n records. Refused: n is not from 1 to 700, or the slice is too short for them (2).
+// Lays out an empty store of n records. Refused: n is not from 1 to MOST_RECORDS, or the slice is too short for them (2).
 pub fn layout_store(s: &mut [u64], n: u64, tick: u64) -> LayoutAnswer
     ensures { λ r. ⌜ toldLayout r ≡ layOut n tick (now (s .entry)) .answer ⌝ }
     ensures { λ _. ⌜ now (s .exit) ≡ layOut n tick (now (s .entry)) .words ⌝ }
