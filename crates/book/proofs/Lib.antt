@@ -1,5 +1,6 @@
 pub mod Accepted
 pub mod Agreement
+pub mod AlikeStores
 pub mod Answers
 pub mod ChainIndices
 pub mod Chains
@@ -13,6 +14,11 @@ pub mod Examples
 pub mod Execution
 pub mod FreeChain
 pub mod FreedRecords
+pub mod HolderExamples
+pub mod HolderInfluence
+pub mod Holderless
+pub mod HolderlessEvaluation
+pub mod KeptFormed
 pub mod LaidOut
 pub mod Lists
 pub mod Lookup

@@ -26,7 +26,7 @@ passedAfter k s script prints queue b =
     passFrom k s (scriptAfter s script prints b) (queue ++ executedIn s script prints b .segments)
     (evaluatedIn s prints b .book)
 
-zero-or-more : {X : Type 0} (n : ℕ) → (n ≡ 0 → X) → ((m : ℕ) → n ≡ suc m → X) → X
+pub zero-or-more : {X : Type 0} (n : ℕ) → (n ≡ 0 → X) → ((m : ℕ) → n ≡ suc m → X) → X
 zero-or-more zero f g = f refl
 zero-or-more (suc m) f g = g m refl
 
