@@ -2,6 +2,7 @@ pub mod Accepted
 pub mod Agreement
 pub mod AlikeStores
 pub mod Answers
+pub mod BySequence
 pub mod ChainIndices
 pub mod Chains
 pub mod ChangedBook
@@ -20,6 +21,7 @@ pub mod Holderless
 pub mod HolderlessEvaluation
 pub mod KeptFormed
 pub mod LaidOut
+pub mod KeyOrder
 pub mod Lists
 pub mod Lookup
 pub mod Members

@@ -91,10 +91,10 @@ held-member P side ss h i m =
 ------------------------------------------------------------------------
 -- No record is gathered twice
 
-abbrev Other : Pending → Pending → Type 0
+abbrev pub Other : Pending → Pending → Type 0
 Other p q = p .index ≢ q .index
 
-gather-other : (choice : Slot → Option StopEntry) (i : ℕ) (ss : List Slot) → Pairwise Other (gather choice i ss)
+pub gather-other : (choice : Slot → Option StopEntry) (i : ℕ) (ss : List Slot) → Pairwise Other (gather choice i ss)
 unfolding gather withIndex
 gather-other choice i [] = tt
 gather-other choice i (s ∷ ss) =
@@ -109,7 +109,7 @@ gather-other choice i (s ∷ ss) =
     go none a rest = rest
     go (some t) a rest = (a, rest)
 
-indices-distinct : (l : List Pending) → Pairwise Other l → Distinct (indices l)
+pub indices-distinct : (l : List Pending) → Pairwise Other l → Distinct (indices l)
 unfolding indices
 indices-distinct [] h = h
 indices-distinct (p ∷ l) h = (all-indices (λ j. p .index ≢ j) l (h .0), indices-distinct l (h .1))
