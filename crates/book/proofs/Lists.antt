@@ -57,6 +57,11 @@ all-getD P [] i d o h = o
 all-getD P (x ∷ l) zero d o h = h .0
 all-getD P (x ∷ l) (suc i) d o h = all-getD P l i d o (h .1)
 
+pub all-at : {A : Type 0} (P : A → Type 0) (l : List A) (i : ℕ) (d : A) → i < length l → All P l → P (getD l i d)
+all-at P [] i d k h = absurd (omega arith)
+all-at P (x ∷ l) zero d k h = h .0
+all-at P (x ∷ l) (suc i) d k h = all-at P l i d (omega arith) (h .1)
+
 pub all-of : {A : Type 0} {P : A → Type 0} → ((x : A) → P x) → (l : List A) → All P l
 all-of f [] = tt
 all-of f (x ∷ l) = (f x, all-of f l)

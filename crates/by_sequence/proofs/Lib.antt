@@ -1,0 +1,4 @@
+pub mod Gathering
+pub mod Halving
+pub mod Named
+pub mod Sequenced
