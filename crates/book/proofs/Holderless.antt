@@ -1,8 +1,7 @@
 -- A book without its holders: the orders of the chains do not look at them, and so neither do the chains, the count of
 -- the pending and the search for an identity. Document 02, One.
 use Prim.Native.Nat.{ℕ, suc}
-use mathlib.Core.Path.{_≡_, refl, ap}
-use mathlib.Core.Bool.{Bool}
+use mathlib.Core.Path.{_≡_, refl, sym, ap}
 use mathlib.Core.List.{List, [], _∷_, _++_, map, map-append, map-map}
 use mathlib.Core.Option.{Option, none, some, Option·map}
 use borrow.Table.Steps.{cases}
@@ -11,8 +10,10 @@ use Rattle.pricelevel.specs.Identity.{sameId}
 use Rattle.pricelevel.specs.declared.Id.{Id}
 use Rattle.pricelevel.specs.declared.Side.{Side}
 use Rattle.pricelevel.specs.declared.Side.the-variants.{Buy, Sell}
+use Rattle.book.proofs.Lists.{all-of}
+use Rattle.book.proofs.Sort.{map-sortBy}
 use Rattle.book.specs.Book.{Slot, vacant, held, Book, Chain, ByStop, ByWatermark, chainSide, sideOf, before, Pending, withIndex, gather, earlierIn, sort, ofSide, pendingOn, chain, indices, pendingCount}
-use Rattle.book.specs.Lists.{isSome, insertBy, sortBy}
+use Rattle.book.specs.Lists.{isSome}
 use Rattle.book.specs.Store.{named, lookup, isPending}
 use Rattle.book.specs.Words.{chainIndices}
 use Rattle.book.specs.declared.StopEntry.{StopEntry}
@@ -30,22 +31,6 @@ holderlessPending p = record { index = p .index; entry = holderless (p .entry) }
 
 abbrev pub holderlessBook : Book → Book
 holderlessBook b = record { next = b .next; tick = b .tick; slots = map holderlessSlot (b .slots); free = b .free }
-
-------------------------------------------------------------------------
--- Sorting what a function alters, where the order does not see it
-
-module _ {A B : Type 0} (f : A → B) (earlier : A → A → Bool) (altered : B → B → Bool)
-    (same : (x y : A) → altered (f x) (f y) ≡ earlier x y) where
-  insertBy-map : (x : A) (l : List A) → insertBy altered (f x) (map f l) ≡ map f (insertBy earlier x l)
-  unfolding insertBy
-  insertBy-map x [] = refl
-  insertBy-map x (y ∷ l) =
-      rw (same x y) (cases (earlier x y) (λ e. rw e) (λ e. rw (e, insertBy-map x l)))
-
-  pub sortBy-map : (l : List A) → sortBy altered (map f l) ≡ map f (sortBy earlier l)
-  unfolding sortBy
-  sortBy-map [] = refl
-  sortBy-map (x ∷ l) = rw (sortBy-map l) (insertBy-map x (sortBy earlier l))
 
 ------------------------------------------------------------------------
 -- Chosen stops, in the order of a chain
@@ -79,8 +64,9 @@ module _ (choice : Slot → Option StopEntry) (blind : Blind choice) where
       → sort c (gather choice 1 (map holderlessSlot ss)) ≡ map holderlessPending (sort c (gather choice 1 ss))
   sort-holderless c ss =
       rw (gather-holderless 1 ss)
-      (sortBy-map holderlessPending (earlierIn c) (earlierIn c) (λ p q. before-holderless c (p .entry) (q .entry))
-      (gather choice 1 ss))
+      (sym (map-sortBy (λ p. Unit {0}) holderlessPending (earlierIn c) (earlierIn c)
+      (λ p q _ _. sym (before-holderless c (p .entry) (q .entry))) (gather choice 1 ss)
+      (all-of (λ p. tt) (gather choice 1 ss))))
 
 pub ofSide-holderless : (d e : Side) (t : StopEntry) → ofSide d e (holderless t) ≡ Option·map holderless (ofSide d e t)
 unfolding ofSide

@@ -28,7 +28,16 @@ pub fn admit_trailing_stop(
     ensures { λ _. ⌜ now (path .exit) ≡ admit kill trade id terms quantity holder (now (s .entry)) (now (path .entry)) .path ⌝ }
     ensures { λ _. ⌜ now (s .exit) ≡ admit kill trade id terms quantity holder (now (s .entry)) (now (path .entry)) .words ⌝ }
 {
-    let admission = admission::admit_trailing_stop(s, *path, kill, trade, id, terms, quantity, holder);
+    let admission = admission::admit_trailing_stop(
+        s,
+        *path,
+        kill,
+        trade,
+        id,
+        terms,
+        quantity,
+        holder,
+    );
     *path = admission.path;
     admission.answer
 }

@@ -50,7 +50,14 @@ pub fn change(s: &mut [u64], n: u64, i: u64, side: Side, t: StopEntry, next: u64
 }
 
 // Takes a stop in, in the first free record, with the next sequence, which it answers.
-pub fn occupy(s: &mut [u64], n: u64, id: Id, terms: StopTerms, quantity: Quantity, holder: Holder) -> Seq
+pub fn occupy(
+    s: &mut [u64],
+    n: u64,
+    id: Id,
+    terms: StopTerms,
+    quantity: Quantity,
+    holder: Holder,
+) -> Seq
     requires { ⌜ ((b : Book) × (r : List ℕ) × Stored n (now s) b r × Admissible (newEntry id terms quantity holder b) b × (b .next + 1 < 2 ^ 64)) ⌝ }
     ensures { λ q. ⌜ ((b : Book) (r : List ℕ) → Stored n (now (s .entry)) b r → Admissible (newEntry id terms quantity holder b) b → b .next + 1 < 2 ^ 64
         → (q .0 ≡ b .next) × Stored n (now (s .exit)) (admitted (newEntry id terms quantity holder b) b) r) ⌝ }

@@ -87,7 +87,20 @@ pub fn of_find(r: FindAnswer, answer: &mut FoundWords) -> u64
         FindAnswer::Found(t) => {
             let w = stop_words(t);
             *answer = [
-                1, w[0], w[1], w[2], w[3], w[4], w[5], w[6], w[7], w[8], w[9], w[10], w[11], w[12],
+                1,
+                w[0],
+                w[1],
+                w[2],
+                w[3],
+                w[4],
+                w[5],
+                w[6],
+                w[7],
+                w[8],
+                w[9],
+                w[10],
+                w[11],
+                w[12],
             ];
             0
         }
