@@ -91,7 +91,7 @@ updateOf w = updateFrom (getD w 0 0) (getD w 1 0) (price (getD w 2 0)) (record {
 -- document 02, One: which stops (0 of a holder, 1 of a side, 2 in a range of stop prices), and the holder's four words,
 -- the side, or the lowest and the highest price. Of these only what is asked for is read
 abbrev pub selectorKnown : List ℕ → Bool
-selectorKnown w = leb (getD w 0 0) 2 && (not (eqb (getD w 0 0) 1) || sideKnown (getD w 1 0))
+selectorKnown w = cond (eqb (getD w 0 0) 1) (sideKnown (getD w 1 0)) (leb (getD w 0 0) 2)
 
 abbrev pub selectorOf : List ℕ → Selector
 selectorOf w =
