@@ -5,6 +5,7 @@ pub mod Answers
 pub mod BySequence
 pub mod ChainIndices
 pub mod Chains
+pub mod Collected
 pub mod ChangedBook
 pub mod PointCounts
 pub mod Differences
@@ -13,6 +14,7 @@ pub mod Evaluated
 pub mod Walks
 pub mod Examples
 pub mod Execution
+pub mod Filter
 pub mod FreeChain
 pub mod FreedRecords
 pub mod HolderExamples
@@ -34,6 +36,7 @@ pub mod Questions
 pub mod ReadBack
 pub mod Refusals
 pub mod VacantIndices
+pub mod VacatedEach
 pub mod PointRecord
 pub mod Slots
 pub mod Sort

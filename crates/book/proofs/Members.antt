@@ -109,7 +109,7 @@ gather-other choice i (s ∷ ss) =
     go none a rest = rest
     go (some t) a rest = (a, rest)
 
-pub indices-distinct : (l : List Pending) → Pairwise Other l → Distinct (indices l)
+indices-distinct : (l : List Pending) → Pairwise Other l → Distinct (indices l)
 unfolding indices
 indices-distinct [] h = h
 indices-distinct (p ∷ l) h = (all-indices (λ j. p .index ≢ j) l (h .0), indices-distinct l (h .1))

@@ -17,6 +17,7 @@ use Rattle.stop_terms.specs.declared.StopTerms.{StopTerms}
 use Rattle.book.proofs.Questions.{decide-outcomes}
 use Rattle.book.specs.Book.{Pending}
 use Rattle.book.specs.Calls.{Settings, SegmentOutcome, ListOutcome, WalkOutcome, PassOutcome, RunOutcome, pendingIn, segmentCall, walkCall, passed, passCall, runOver, runCall}
+use Rattle.book.specs.Collect.{CollectOutcome, collect, massCancel}
 use Rattle.error.specs.Questions.{decide}
 use Rattle.book.specs.Store.{StoreOutcome, PathOutcome, layOut, clear, admit, cancelFound, cancel, cancels, changeFound, updateFound, update, lookup}
 use Rattle.book.specs.Words.{bookOf}
@@ -24,6 +25,7 @@ use Rattle.book.specs.declared.LastPrice.{LastPrice}
 use Rattle.book.specs.declared.OrderUpdate.{OrderUpdate}
 use Rattle.book.specs.declared.PrintPath.{PrintPath}
 use Rattle.book.specs.declared.PrintSegment.{PrintSegment}
+use Rattle.book.specs.declared.Selector.{Selector}
 use Rattle.book.specs.declared.StopEntry.{StopEntry}
 
 -- an outcome is refused
@@ -92,6 +94,24 @@ unfolding update
 update-refused change id trade w r =
     decide-refused (λ (o : StoreOutcome StopEntry). o .answer) (λ o. o .words ≡ w) _ _ _ r (λ k. refl)
     (updateFound-refused change trade (lookup id (bookOf w)) w)
+
+-- what collect and mass cancel leave and list where they are refused
+abbrev CollectLeft : List ℕ → CollectOutcome → Type 0
+CollectLeft w o = (o .words ≡ w) × (o .listed ≡ [])
+
+pub collect-refused : (selector : Selector) (w : List ℕ) (list : ℕ) → Refused (collect selector w list .answer)
+    → CollectLeft w (collect selector w list)
+unfolding collect
+collect-refused selector w list r =
+    decide-refused (λ (o : CollectOutcome). o .answer) (λ o. CollectLeft w o) _ _ _ r (λ k. (refl, refl))
+    (λ q. absurd (accepted-refused _ q))
+
+pub massCancel-refused : (selector : Selector) (w : List ℕ) (list : ℕ) → Refused (massCancel selector w list .answer)
+    → CollectLeft w (massCancel selector w list)
+unfolding massCancel
+massCancel-refused selector w list r =
+    decide-refused (λ (o : CollectOutcome). o .answer) (λ o. CollectLeft w o) _ _ _ r (λ k. (refl, refl))
+    (λ q. absurd (accepted-refused _ q))
 
 module _ (s : Settings) (w : List ℕ) (elected : ℕ) where
   pub segmentCall-refused : (prints : PrintSegment) (moved : ℕ) → Refused (segmentCall s prints w elected moved .answer)

@@ -13,7 +13,7 @@ use Rattle.pricelevel.specs.Side.{sideNumber}
 use Rattle.book.specs.Book.{Slot, vacant, held, Book, Pending, gather, entries, sideOf, stopOf, seqOf}
 use Rattle.book.specs.Calls.{pendingIn}
 use Rattle.book.specs.Lists.{sortBy, filter}
-use Rattle.book.specs.Store.{storedBook, vacated}
+use Rattle.book.specs.Store.{storedBook, vacated, cancel}
 use Rattle.book.specs.Words.{dataWords, bookOf, wellFormed}
 use Rattle.book.specs.declared.Selector.{Selector}
 use Rattle.book.specs.declared.Selector.the-variants.{ByHolder, BySide, ByPriceRange}
@@ -83,3 +83,8 @@ massCancel selector w list =
     decide (firstNo (collectQuestions w list))
     (λ k. record { answer = refused k; words = w; listed = [] })
     (record { answer = accepted (length l); words = storedBook (vacatedEach l (bookOf w)) w; listed = entries l })
+
+-- the words after a cancel of each stop of a list, one after the other
+unfoldable pub cancelEach : List StopEntry → List ℕ → List ℕ
+cancelEach [] w = w
+cancelEach (t ∷ l) w = cancelEach l (cancel (t .id) w .words)
