@@ -1,13 +1,29 @@
-"""Document 01 read into Python: the store as words, its form, and every call by words, with its refusals in their order.
+"""Documents 01 and 02 read into Python: the store as words, its form, and every call by words, with its refusals in their order.
 
-Written from the document alone. A store is a list of words; a call takes and answers words, and returns 0 or the number of its refusal.
+Written from the documents alone. A store is a list of words; a call takes and answers words, and returns 0 or the number of its refusal.
 A refused call answers None and alters nothing. Prices, quantities and sequences are plain numbers below 2^64."""
 import hashlib
 
 TOP = 2**64 - 1
-MOST_RECORDS, MOST_PRICES, HEADER, RECORD = 700, 4096, 9, 11
+MOST_RECORDS, MOST_PRICES, HEADER, RECORD = 545, 4096, 9, 15
 BUY, SELL = 0, 1
 UNKNOWN = 255
+
+# where a record has its two links, next by stop and next by watermark, and behind them its holder
+LINKS, HOLDER = 9, 11
+# the words of a holder, of a record without its links, as answers and lists have it, and of a selector
+HOLDER_WORDS = RECORD - HOLDER
+STOP_WORDS, SELECTOR_WORDS = LINKS + HOLDER_WORDS, 1 + HOLDER_WORDS
+
+
+def store_words(n):
+    """The words of a store of n records."""
+    return HEADER + RECORD * n
+
+
+def place(i, k):
+    """Where a store has word k of its record i."""
+    return store_words(i - 1) + k
 
 
 # ---------------------------------------------------------------------
@@ -71,11 +87,19 @@ def child(namespace, identity):
 # The book behind the words
 
 class Stop:
-    def __init__(self, identity, terms, quantity, seq):
-        self.identity, self.terms, self.quantity, self.seq = identity, terms, quantity, seq
+    def __init__(self, identity, terms, quantity, seq, holder):
+        self.identity, self.terms, self.quantity, self.seq, self.holder = identity, terms, quantity, seq, holder
 
     def words(self):
-        return [*self.identity, *self.terms, self.quantity, self.seq]
+        """The record without its links."""
+        return [*self.identity, *self.terms, self.quantity, self.seq, *self.holder]
+
+    def record(self, links):
+        words = self.words()
+        return words[:LINKS] + links + words[LINKS:]
+
+    def trailed(self, price):
+        return Stop(self.identity, trailed(self.terms, price), self.quantity, self.seq, self.holder)
 
 
 def by_stop(stop):
@@ -110,21 +134,22 @@ class Book:
         self.free.insert(0, i)
 
     def words(self):
-        chains = self.chains()
-        links = {}
-        for place, chain in [(9, chains[0]), (10, chains[1]), (9, chains[2]), (10, chains[3]), (9, self.free)]:
+        chains = [*self.chains(), self.free]
+        links = [[0, 0] for _ in self.records]
+        for which, chain in zip((0, 1, 0, 1, 0), chains):
             for i, after in zip(chain, chain[1:] + [0]):
-                links[i, place] = after
-        heads = [chain[0] if chain else 0 for chain in [*chains, self.free]]
+                links[i - 1][which] = after
+        heads = [chain[0] if chain else 0 for chain in chains]
         out = [len(self.records), len(self.stops()), self.next, self.tick, *heads]
-        for i, stop in enumerate(self.records, 1):
-            out += (stop.words() if stop else [0] * 9) + [links.get((i, 9), 0), links.get((i, 10), 0)]
+        vacant = Stop((0,) * 3, (0,) * 4, 0, 0, (0,) * HOLDER_WORDS)
+        for stop, linked in zip(self.records, links):
+            out += (stop or vacant).record(linked)
         return out
 
 
 def read(w):
     """The book whose words these are, or None where they are not well formed."""
-    if len(w) < HEADER or not 1 <= w[0] <= MOST_RECORDS or len(w) < HEADER + RECORD * w[0]:
+    if len(w) < HEADER or not 1 <= w[0] <= MOST_RECORDS or len(w) < store_words(w[0]):
         return None
     n = w[0]
     book = Book(n, w[3])
@@ -133,12 +158,12 @@ def read(w):
         if i > n or len(book.free) == n:
             return None
         book.free.append(i)
-        i = w[HEADER + RECORD * (i - 1) + 9]
+        i = w[place(i, LINKS)]
     vacant = set(book.free)
     for i in range(1, n + 1):
-        r = w[HEADER + RECORD * (i - 1):HEADER + RECORD * i]
+        r = w[place(i, 0):place(i + 1, 0)]
         if i not in vacant:
-            book.records[i - 1] = Stop(tuple(r[0:3]), tuple(r[3:7]), r[7], r[8])
+            book.records[i - 1] = Stop(tuple(r[0:3]), tuple(r[3:7]), r[7], r[8], tuple(r[HOLDER:]))
     stops = book.stops()
     if any(s.identity[0] > 2 or s.terms[0] > 1 or s.quantity == 0 or inconsistency(s.terms) or s.seq >= book.next
            or (book.tick and s.terms[3] % book.tick) for s in stops):
@@ -146,7 +171,7 @@ def read(w):
     if len({s.identity for s in stops}) < len(stops) or len({s.seq for s in stops}) < len(stops):
         return None
     # what is left, order, membership and zeros, is that the words are those that this book has
-    return book if book.words() == w[:HEADER + RECORD * n] else None
+    return book if book.words() == w[:store_words(n)] else None
 
 
 def write(w, book):
@@ -158,7 +183,7 @@ def write(w, book):
 # The calls on a store. Each returns (number, answer or None)
 
 def layout_store(w, n, tick):
-    if not 1 <= n <= MOST_RECORDS or len(w) < HEADER + RECORD * n:
+    if not 1 <= n <= MOST_RECORDS or len(w) < store_words(n):
         return 2, None
     write(w, Book(n, tick))
     return 0, None
@@ -180,7 +205,8 @@ def maybe(words):
     return words[1] if words[0] else None
 
 
-def admit(w, path, kill, trade, identity, terms, quantity):
+def admit(w, path, kill, trade, identity, terms, quantity, holder):
+    """Nothing is asked of the holder."""
     if not known_id(identity) or terms[0] > 1 or not known_path(path):
         return UNKNOWN, None
     book = read(w)
@@ -195,7 +221,7 @@ def admit(w, path, kill, trade, identity, terms, quantity):
     if not book.stops():
         path[0] = 0
     seq = book.next
-    book.records[book.free.pop(0) - 1] = Stop(identity, terms, quantity, seq)
+    book.records[book.free.pop(0) - 1] = Stop(identity, terms, quantity, seq, holder)
     book.next += 1
     write(w, book)
     return 0, [seq]
@@ -239,7 +265,7 @@ def update(w, identity, change, trade):
     for number, yes in questions:
         if not yes:
             return number, None
-    new = Stop(identity, terms, amount, old.seq)
+    new = Stop(identity, terms, amount, old.seq, old.holder)
     if what != QUANTITY:
         new.seq = book.next
         book.next += 1
@@ -255,7 +281,7 @@ def find(w, identity):
     if not book:
         return 1, None
     i = book.find(identity)
-    return 0, [1] + book.records[i - 1].words() if i else [0] * 10
+    return 0, [1] + book.records[i - 1].words() if i else [0] * (1 + STOP_WORDS)
 
 
 def pending_quantity(w):
@@ -278,6 +304,45 @@ def clear(w, path):
     write(w, Book(len(book.records), book.tick))
     path[0] = 0
     return 0, None
+
+
+# ---------------------------------------------------------------------
+# Collect and mass cancel. A selector is its kind and four words: a holder's; a side; the lowest and the highest stop price
+
+BY_HOLDER, BY_SIDE, BY_PRICE_RANGE = range(3)
+
+
+def known_selector(selector):
+    return selector[0] <= BY_PRICE_RANGE and (selector[0] != BY_SIDE or selector[1] <= 1)
+
+
+def selects(selector, stop):
+    kind, *words = selector
+    if kind == BY_HOLDER:
+        return stop.holder == tuple(words)
+    return stop.terms[0] == words[0] if kind == BY_SIDE else words[0] <= stop.terms[1] <= words[1]
+
+
+def collect(w, selector, room, cancels=False):
+    """The number, how many are listed, and their words, by rising sequence; with `cancels` each of them is then cancelled, in that order."""
+    if not known_selector(selector):
+        return UNKNOWN, None, []
+    book = read(w)
+    if not book:
+        return 1, None, []
+    if room < len(book.stops()):
+        return 14, None, []
+    chosen = sorted((s.seq, i) for i, s in enumerate(book.records, 1) if s and selects(selector, s))
+    entries = [book.records[i - 1].words() for _, i in chosen]
+    if cancels:
+        for _, i in chosen:
+            book.remove(i)
+        write(w, book)
+    return 0, [len(entries)], entries
+
+
+def mass_cancel(w, selector, room):
+    return collect(w, selector, room, cancels=True)
 
 
 # ---------------------------------------------------------------------
@@ -317,10 +382,10 @@ def point(book, kill, sells_first, price):
     for side in (SELL, BUY):
         for i in book.chain(side, by_watermark):
             stop = book.records[i - 1]
-            terms = trailed(stop.terms, price)
-            if terms[1] != stop.terms[1]:
-                moved.append((stop.identity, terms[1]))
-            book.records[i - 1] = Stop(stop.identity, terms, stop.quantity, stop.seq)
+            new = stop.trailed(price)
+            if new.terms[1] != stop.terms[1]:
+                moved.append((new.identity, new.terms[1]))
+            book.records[i - 1] = new
     if not kill:
         for side in (SELL, BUY) if sells_first else (BUY, SELL):
             for i in book.chain(side, by_stop):

@@ -1,10 +1,11 @@
 """The calls that evaluate, as session lines of call_cases: document 01's examples on runs, ratchets, limits, children, passes, refusals and runs over
-path and store; and evaluations by chance."""
+path and store; stores with holders; and evaluations by chance."""
 import book
 from chance import Chance
 
 TOP = 2**64 - 1
 PLAIN = (0, 0)  # the kill switch off, no collar
+HOLDERS = ["0 0 0 0", "1 2 3 4", "1 2 3 5", f"{TOP} {TOP} {TOP} {TOP}"]
 
 
 def sell(low, stop, watermark=100, trail=10):
@@ -44,11 +45,12 @@ def row(words):
     return " ".join(map(str, words))
 
 
-def store(name):
-    """A store made by admissions; a broken one has a pending count of 3."""
+def store(name, holders=("",)):
+    """A store made by admissions, of these holders in turn; a broken one has a pending count of 3."""
     n, stops = STORES[name]
-    lines = ["show 0", "words 55 0", f"layout {n} 0"]
-    lines += [f"admit 0 0 0 {row(identity)} {row(terms)} 1" for identity, terms in stops]
+    lines = ["show 0", f"words {book.store_words(4) + 2} 0", f"layout {n} 0"]
+    for k, (identity, terms) in enumerate(stops):
+        lines.append(f"admit 0 0 0 {row(identity)} {row(terms)} 1 {holders[k % len(holders)]}".rstrip())
     return lines + (["set 1 3"] if name == "broken" else []) + ["show 1"]
 
 
@@ -207,6 +209,15 @@ def runs():
     yield from run("forecast", closed, 94, [2])
 
 
+def holders():
+    yield ""
+    yield "# Holders have no influence: evaluations of above on stores with holders, and who holds what is left"
+    for name, call in [("forecast", "walk 0 0 0 0 0 0 100 97 94"), ("both", "segment 0 0 0 0 0 0 100 101"), ("ties", "segment 0 0 0 0 0 0 110 110"),
+                       ("child", "segment 0 0 0 0 0 0 97 97"), ("four", "pass 0 0 0 0 0 0 97 97 1 1 97 90 90"), ("three", "walk 1 0 0 0 0 0 107 90")]:
+        yield from store(name, HOLDERS[1:])
+        yield from [call, "lists 5 9 5", "collect 2 0 1000", "collect 0 1 2 3 4", "lists 5 9"]
+
+
 def price(chance):
     return chance.of([0, TOP]) if chance.below(60) == 0 else 90 + chance.below(21)
 
@@ -232,7 +243,7 @@ def chance_stop(chance):
     side, a, b = chance.below(2), price(chance), price(chance)
     stop, mark = (min(a, b), max(a, b)) if side == 1 else (max(a, b), min(a, b))
     identity = row((2, 0, chance.below(20))) if chance.below(4) else row(book.child((0, 0), (2, 0, chance.below(20))))
-    return f"admit 0 0 0 {identity} {side} {stop} {mark} {chance.of([1, 3, 5, 10, 20])} {1 + chance.below(9)}"
+    return f"admit 0 0 0 {identity} {side} {stop} {mark} {chance.of([1, 3, 5, 10, 20])} {1 + chance.below(9)} {chance.of(HOLDERS)}"
 
 
 def by_chance():
@@ -242,23 +253,24 @@ def by_chance():
         n = 2 + chance.below(9)
         yield ""
         yield f"# By chance: {n} records"
-        yield from [f"words {9 + 11 * n + 1} 77", f"layout {n} 0"]
+        yield from [f"words {book.store_words(n) + 1} 77", f"layout {n} 0"]
         for _ in range(4):
             yield from (chance_stop(chance) for _ in range(3 + chance.below(4)))
             yield from chance_call(chance)
 
 
 def most():
-    """As many stops as a store can have, all ratcheted and then all elected."""
+    """As many stops as a store can have, of which most ratchet and are then elected."""
     yield ""
-    yield f"# {book.MOST_RECORDS} stops: all ratchet, and all are elected"
-    yield from ["show 0", f"lists {book.MOST_RECORDS} {2 * book.MOST_RECORDS}", f"words {9 + 11 * book.MOST_RECORDS + 11} 0",
+    yield f"# {book.MOST_RECORDS} stops: most ratchet, and most are elected"
+    yield from ["show 0", f"lists {book.MOST_RECORDS} {2 * book.MOST_RECORDS}", f"words {book.store_words(book.MOST_RECORDS + 1)} 0",
                 f"layout {book.MOST_RECORDS} 0"]
     for i in range(book.MOST_RECORDS):
-        yield f"admit 0 0 0 2 0 {i} {i % 2} {1000 if i % 2 else 3000 + i % 5} {2000 + i * 37 % 701 - 350 * (i % 2)} 300 1"
+        mark = 2000 + i * 37 % book.MOST_RECORDS - book.MOST_RECORDS // 2 * (i % 2)
+        yield f"admit 0 0 0 2 0 {i} {i % 2} {1000 if i % 2 else 3000 + i % 5} {mark} 300 1 {HOLDERS[i % 4]}"
     yield from ["show 2", "segment 0 5 0 0 0 0 2100 1900", f"lists {book.MOST_RECORDS - 1} 0", "walk 0 0 0 0 0 0 1900",
                 f"lists {book.MOST_RECORDS} 0", "walk 0 0 0 0 0 0 1500 2500"]
 
 
 def lines():
-    return ["path 0 0 0 0", "lists 5 9", *examples(), *segments(), *children(), *passes(), *refusals(), *runs(), *by_chance(), *most()]
+    return ["path 0 0 0 0", "lists 5 9", *examples(), *segments(), *children(), *passes(), *refusals(), *runs(), *holders(), *by_chance(), *most()]

@@ -11,7 +11,7 @@ def forecast(data):
     """Document 01, The program `forecast`: a store as little-endian words, a price count, the prices."""
     words = [] if len(data) % 8 else [int.from_bytes(data[k:k + 8], "little") for k in range(0, len(data), 8)]
     records = min(words[0], book.MOST_RECORDS) if words else 0
-    store, behind = words[:book.HEADER + book.RECORD * records], words[book.HEADER + book.RECORD * records:]
+    store, behind = words[:book.store_words(records)], words[book.store_words(records):]
     prices = behind[1:] if behind and behind[0] <= book.MOST_PRICES and len(behind) - 1 == behind[0] else []
     r = book.walk(store, (0, 0, (0, 0)), None, prices, book.MOST_RECORDS)
     if r.number:
@@ -21,7 +21,7 @@ def forecast(data):
 
 def longest_cases():
     """The longest store and a count, without prices; then so many bytes, around every bound of the reading."""
-    store = [0] * (book.HEADER + book.RECORD * book.MOST_RECORDS)
+    store = [0] * book.store_words(book.MOST_RECORDS)
     book.layout_store(store, book.MOST_RECORDS, 0)
     end = 8 * (len(store) + 1 + book.MOST_PRICES)
     lengths = [8 * len(store) + k for k in (-8, -1, 0, 1, 8)] + list(range(end - 9, end + 34)) + [end + 8 * 4096, end + 8 * 4096 + 1]

@@ -7,12 +7,17 @@ import sys
 import book
 
 LENT = 9009
-MOST_WORDS = book.HEADER + book.RECORD * (book.MOST_RECORDS + 1)
+MOST_WORDS = book.store_words(book.MOST_RECORDS + 1)
 
 
 def told(number, answer, length):
     """What a call returned, and the words of its answer."""
     return f"{number}, answer {' '.join(map(str, answer if answer is not None else [LENT] * length))}"
+
+
+def words_of(n, at, count):
+    """So many words of a line from a place on; those that it does not have are 0."""
+    return tuple((n + [0] * (at + count))[at:at + count])
 
 
 def known(condition, answer):
@@ -22,7 +27,7 @@ def known(condition, answer):
 class Session:
     def __init__(self):
         self.buffer, self.size, self.before = [0] * MOST_WORDS, 0, [0] * MOST_WORDS
-        self.path, self.rooms, self.show = [0] * 4, (0, 0), 0
+        self.path, self.rooms, self.show = [0] * 4, (0, 0, 0), 0
 
     def words(self):
         return self.buffer[:self.size]
@@ -40,7 +45,7 @@ class Session:
         elif name == "path":
             self.path = list(n)
         elif name == "lists":
-            self.rooms = tuple(n)
+            self.rooms = words_of(n, 0, 3)
         elif name == "show":
             self.show = n[0]
         return ""
@@ -49,9 +54,9 @@ class Session:
         tick, following, count = n[:3]
         number, _ = book.layout_store(self.buffer, count + 1, tick)
         for k in range(count):
-            s = n[3 + 9 * k:12 + 9 * k]
+            s = words_of(n, 3 + book.STOP_WORDS * k, book.STOP_WORDS)
             self.buffer[2] = s[8]
-            number = number or book.admit(self.buffer, [0] * 4, 0, None, tuple(s[:3]), tuple(s[3:7]), s[7])[0]
+            number = number or book.admit(self.buffer, [0] * 4, 0, None, s[:3], s[3:7], s[7], s[9:])[0]
         self.buffer[2] = following
         return str(number)
 
@@ -92,7 +97,7 @@ class Session:
 
     def asked(self, name, n):
         if name == "find":
-            return told(*book.find(self.words(), tuple(n)), 10)
+            return told(*book.find(self.words(), tuple(n)), 1 + book.STOP_WORDS)
         if name == "quantity":
             return told(*book.pending_quantity(self.words()), 4)
         return str(book.well_formed(self.words()))
@@ -103,14 +108,20 @@ class Session:
         if name == "clear":
             return str(book.clear(w, self.path)[0]) + self.with_path()
         if name == "cancel":
-            return told(*book.cancel(w, tuple(n)), 9)
+            return told(*book.cancel(w, tuple(n)), book.STOP_WORDS)
         if name == "update":
-            return told(*book.update(w, tuple(n[:3]), n[3:7], book.maybe(n[7:9])), 9)
-        answer = book.admit(w, self.path, n[0], book.maybe(n[1:3]), tuple(n[3:6]), tuple(n[6:10]), n[10])
+            return told(*book.update(w, tuple(n[:3]), n[3:7], book.maybe(n[7:9])), book.STOP_WORDS)
+        holder = words_of(n, 11, book.HOLDER_WORDS)
+        answer = book.admit(w, self.path, n[0], book.maybe(n[1:3]), tuple(n[3:6]), tuple(n[6:10]), n[10], holder)
         return told(*answer, 1) + self.with_path()
 
+    def collected(self, w, name, n):
+        call = book.collect if name == "collect" else book.mass_cancel
+        number, answer, entries = call(w, words_of(n, 0, book.SELECTOR_WORDS), self.rooms[2])
+        return told(number, answer, 1) + listed("collected", entries)
+
     def evaluated(self, w, name, n):
-        settings, room = (n[0], n[1], n[2:4]), self.rooms
+        settings, room = (n[0], n[1], n[2:4]), self.rooms[:2]
         if name == "segment":
             r = book.segment(w, settings, book.maybe(n[4:6]), n[6], n[7], *room)
         elif name == "walk":
@@ -122,7 +133,7 @@ class Session:
         line = told(r.number, r.answer, 2 if name in ("segment", "walk") else 3)
         if name == "run":
             line += self.with_path()
-        return line + listed(r.elected, r.moved)
+        return line + listed("elected", r.elected) + listed("moved", r.moved)
 
     def shown(self):
         if self.show == 1:
@@ -132,7 +143,10 @@ class Session:
     def on_store(self, name, n):
         self.before = self.words() + self.before[self.size:]
         w = self.words()
-        line = (self.altered if name in ("layout", "clear", "cancel", "update", "admit") else self.evaluated)(w, name, n)
+        if name in ("collect", "mass_cancel"):
+            line = self.collected(w, name, n)
+        else:
+            line = (self.evaluated if name in ("segment", "walk", "pass", "run") else self.altered)(w, name, n)
         self.buffer[:self.size] = w
         return line + self.shown()
 
@@ -149,15 +163,14 @@ class Session:
             return self.of_path(name, n)
         if name in ("well_formed", "quantity", "find"):
             return self.asked(name, n)
-        if name in ("layout", "clear", "cancel", "admit", "update", "segment", "walk", "pass", "run"):
+        if name in ("layout", "clear", "cancel", "admit", "update", "segment", "walk", "pass", "run", "collect", "mass_cancel"):
             return self.on_store(name, n)
         return self.of_terms(name, n)
 
 
-def listed(elected, moved):
-    """The entries that a call wrote in its lists."""
-    line = "".join(f", elected {k}: {' '.join(map(str, e))}" for k, e in enumerate(elected))
-    return line + "".join(f", moved {k}: {' '.join(map(str, m))}" for k, m in enumerate(moved))
+def listed(name, entries):
+    """The entries that a call wrote in a list."""
+    return "".join(f", {name} {k}: {' '.join(map(str, words))}" for k, words in enumerate(entries))
 
 
 def stops(before, after):
