@@ -4,25 +4,29 @@
 // to the store. Nothing is compared here: what is printed is held to a stored text, which a model of document 01
 // made (model/), or the published Rust (oracle/).
 //
-// A line that is empty, or starts with #, is printed as it is. The calls, with the words that each takes:
+// A line that is empty, or starts with #, is printed as it is. The calls, with the words that each takes; those that a
+// line leaves out at its end are 0:
 //
 //     trailed TERMS PRICE, elected_by TERMS PRICE, inconsistency TERMS     TERMS: side, stop, watermark, trail
 //     preview SIDE STOP TRAIL REFERENCE PRICE, limit COLLAR SIDE STOP      SIDE: 0 buy, 1 sell
 //     collar COLLAR, collar_tick COLLAR TICK, child HIGH LOW ID            ID: kind, high, low
 //     record PENDING MAYBE PRICE, take MAYBE, reset                        MAYBE: present, price
 //     well_formed, quantity, find ID, layout N TICK, clear, cancel ID
-//     admit KILL MAYBE ID TERMS QUANTITY, update ID CHANGE MAYBE           CHANGE: kind, side, price, quantity
+//     admit KILL MAYBE ID TERMS QUANTITY HOLDER                            HOLDER: four words
+//     update ID CHANGE MAYBE                                               CHANGE: kind, side, price, quantity
 //     segment SETTINGS PRINTS, walk SETTINGS MAYBE PRICE ..                SETTINGS: kill, collar, namespace high, low
 //     pass SETTINGS PRINTS SCRIPT, run SETTINGS MAYBE SCRIPT               PRINTS: MAYBE, first, last
+//     collect SELECTOR, mass_cancel SELECTOR                               SELECTOR: 0 HOLDER; 1 SIDE; 2 lowest, highest
 //
 // What a session lends, which its own lines set:
 //
 //     words N V         N words, each V
 //     set P V           word P becomes V
 //     store W ..        these words
-//     book TICK NEXT COUNT STOP ..   a store of one record more than the stops, each admitted under its sequence
+//     book TICK NEXT COUNT STOP ..   a store of one record more than the stops, each admitted under its sequence; a STOP
+//                       is ID, TERMS, quantity, sequence, HOLDER
 //     path W W W W      the print path
-//     lists N M         lists of N elected and M moved
+//     lists N M K       lists of N elected, M moved and K collected
 //     show K            after a call on the store: 0 nothing; 1 the words that changed; 2 next sequence, pending
 //                       count, the stops that changed by rising sequence, and the sequence of each that is gone
 mod lending;

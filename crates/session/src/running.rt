@@ -11,8 +11,12 @@ use session_text::shown;
 fn alter(call: u64, s: &mut [u64], path: &mut [u64; 4], n: &[u64], desk: Desk) {
     if call < names::SEGMENT {
         session_store::alter(call, s, path, n);
-    } else {
+        return;
+    }
+    if call < names::COLLECT {
         session_lists::run(call, s, path, n, desk.elected, desk.moved);
+    } else {
+        session_lists::collect(call, s, n, desk.collected);
     }
 }
 

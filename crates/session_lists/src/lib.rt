@@ -1,5 +1,7 @@
-// Lines that evaluate a store, and the lists that they lend: every word of these is the same before a call, so that
-// all that the call wrote is printed, and an entry behind the last that it lists as well, should it write there.
+// Lines that evaluate a store or collect its stops, and the lists that they lend: every word of these is the same before
+// a call, so that all that the call wrote is printed, and an entry behind the last that it lists as well, should it
+// write there.
+use crate::entries::entry;
 use book::ELECTED_WORDS;
 use book::ElectedWords;
 use book::MOVED_WORDS;
@@ -17,27 +19,10 @@ use yubtomiq::yubtomiq_run_stop_triggers;
 use yubtomiq::yubtomiq_segment;
 use yubtomiq::yubtomiq_walk;
 
-// Whether some word of an entry is not as it was lent.
-fn wrote(entry: &[u64]) -> bool {
-    let mut i: usize = 0;
-    while i < entry.len() {
-        if entry[i] != LENT {
-            return true;
-        }
-        i += 1;
-    }
-    false
-}
+mod collecting;
+mod entries;
 
-// An entry that a call wrote, with its place.
-fn entry(name: &[u8], i: usize, words: &[u64]) {
-    if wrote(words) {
-        printing::text(name);
-        printing::number(i as u64);
-        printing::text(b":");
-        printing::words(words);
-    }
-}
+pub use collecting::collect;
 
 fn elected_entry(i: usize, words: &ElectedWords) {
     entry(b", elected ", i, words);

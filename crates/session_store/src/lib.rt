@@ -1,6 +1,9 @@
 // Lines that lay out, ask and change a store.
 use book::DATA_WORDS;
 use book::MOST_RECORDS;
+use host_words::FOUND_WORDS;
+use host_words::HolderWords;
+use host_words::StopWords;
 use session_text::lent::LENT;
 use session_text::names;
 use session_text::numbers::four;
@@ -20,9 +23,9 @@ use yubtomiq::yubtomiq_update_pending_stop;
 use yubtomiq::yubtomiq_well_formed;
 
 fn find(s: &[u64], n: &[u64]) {
-    let mut answer = [LENT; 10];
+    let mut answer = [LENT; FOUND_WORDS];
     let r = yubtomiq_pending_stop_order(s, &three(n), &mut answer);
-    printing::ten(r, &answer);
+    printing::found(r, &answer);
 }
 
 fn quantity(s: &[u64]) {
@@ -40,18 +43,29 @@ pub fn read(call: u64, s: &[u64], n: &[u64]) {
     }
 }
 
-// Admits a stop: identity, terms, quantity.
+// Admits a stop, which is identity, terms and quantity, for a holder.
 fn admit_stop(
     s: &mut [u64],
     path: &mut [u64; 4],
     kill: u64,
     trade: &[u64; 2],
     stop: &[u64],
+    holder: &HolderWords,
     answer: &mut [u64; 1],
 ) -> u64 {
     let id = three(stop);
     let terms = four(rest(stop, 3));
-    yubtomiq_admit_trailing_stop(s, path, kill, trade, &id, &terms, word(stop, 7), answer)
+    yubtomiq_admit_trailing_stop(
+        s,
+        path,
+        kill,
+        trade,
+        &id,
+        &terms,
+        word(stop, 7),
+        holder,
+        answer,
+    )
 }
 
 fn admit(s: &mut [u64], path: &mut [u64; 4], n: &[u64]) {
@@ -62,30 +76,31 @@ fn admit(s: &mut [u64], path: &mut [u64; 4], n: &[u64]) {
         word(n, 0),
         &two(rest(n, 1)),
         rest(n, 3),
+        &four(rest(n, 11)),
         &mut answer,
     );
     printing::one(r, &answer);
     printing::path(path);
 }
 
-fn update_of(s: &mut [u64], n: &[u64], answer: &mut [u64; 9]) -> u64 {
+fn update_of(s: &mut [u64], n: &[u64], answer: &mut StopWords) -> u64 {
     yubtomiq_update_pending_stop(s, &three(n), &four(rest(n, 3)), &two(rest(n, 7)), answer)
 }
 
 fn update(s: &mut [u64], n: &[u64]) {
-    let mut answer = [LENT; 9];
+    let mut answer = [LENT; DATA_WORDS];
     let r = update_of(s, n, &mut answer);
-    printing::nine(r, &answer);
+    printing::stop(r, &answer);
 }
 
-fn cancel_of(s: &mut [u64], n: &[u64], answer: &mut [u64; 9]) -> u64 {
+fn cancel_of(s: &mut [u64], n: &[u64], answer: &mut StopWords) -> u64 {
     yubtomiq_cancel_pending_stop(s, &three(n), answer)
 }
 
 fn cancel(s: &mut [u64], n: &[u64]) {
-    let mut answer = [LENT; 9];
+    let mut answer = [LENT; DATA_WORDS];
     let r = cancel_of(s, n, &mut answer);
-    printing::nine(r, &answer);
+    printing::stop(r, &answer);
 }
 
 fn clear(s: &mut [u64], path: &mut [u64; 4]) {
@@ -113,12 +128,20 @@ pub fn alter(call: u64, s: &mut [u64], path: &mut [u64; 4], n: &[u64]) {
     }
 }
 
-// Admits a stop under a sequence, which follows its quantity.
+// Admits a stop under a sequence, which follows its quantity; then comes its holder.
 fn admit_under(s: &mut [u64], stop: &[u64]) -> u64 {
     let mut answer = [LENT; 1];
     let mut path = [0u64; 4];
     set(s, 2, word(stop, 8));
-    admit_stop(s, &mut path, 0, &[0, 0], stop, &mut answer)
+    admit_stop(
+        s,
+        &mut path,
+        0,
+        &[0, 0],
+        stop,
+        &four(rest(stop, 9)),
+        &mut answer,
+    )
 }
 
 fn first_refusal(a: u64, b: u64) -> u64 {

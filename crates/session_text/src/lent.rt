@@ -12,3 +12,5 @@ pub const MOST_WORDS: usize = HEADER_WORDS + RECORD_WORDS * (MOST_RECORDS + 1);
 pub const MOST_ELECTED: usize = MOST_RECORDS + 1;
 
 pub const MOST_MOVED: usize = 2 * MOST_RECORDS + 1;
+
+pub const MOST_COLLECTED: usize = MOST_RECORDS + 1;

@@ -47,23 +47,27 @@ pub const PASS: u64 = 21;
 
 pub const RUN: u64 = 22;
 
-pub const WORDS: u64 = 23;
+pub const COLLECT: u64 = 23;
 
-pub const SET: u64 = 24;
+pub const MASS_CANCEL: u64 = 24;
 
-pub const STORE: u64 = 25;
+pub const WORDS: u64 = 25;
 
-pub const BOOK: u64 = 26;
+pub const SET: u64 = 26;
 
-pub const PATH: u64 = 27;
+pub const STORE: u64 = 27;
 
-pub const LISTS: u64 = 28;
+pub const BOOK: u64 = 28;
 
-pub const SHOW: u64 = 29;
+pub const PATH: u64 = 29;
+
+pub const LISTS: u64 = 30;
+
+pub const SHOW: u64 = 31;
 
 // Every name, with a space behind it.
-const NAMES: [u8; 208] =
-    *b"trailed elected_by inconsistency preview limit collar collar_tick child record take reset well_formed quantity find layout clear cancel admit update segment walk pass run words set store book path lists show ";
+const NAMES: [u8; 228] =
+    *b"trailed elected_by inconsistency preview limit collar collar_tick child record take reset well_formed quantity find layout clear cancel admit update segment walk pass run collect mass_cancel words set store book path lists show ";
 
 // Whether two texts are the same.
 fn same(a: &[u8], b: &[u8]) -> bool {

@@ -96,3 +96,7 @@ pub fn three(n: &[u64]) -> [u64; 3] {
 pub fn four(n: &[u64]) -> [u64; 4] {
     [word(n, 0), word(n, 1), word(n, 2), word(n, 3)]
 }
+
+pub fn five(n: &[u64]) -> [u64; 5] {
+    [word(n, 0), word(n, 1), word(n, 2), word(n, 3), word(n, 4)]
+}

@@ -1,4 +1,6 @@
 // Text and numbers on standard output.
+use host_words::FoundWords;
+use host_words::StopWords;
 
 pub fn text(t: &[u8]) {
     io::write_all(1, t);
@@ -49,11 +51,11 @@ pub fn five(returned: u64, answered: &[u64; 5]) {
     answer(returned, answered);
 }
 
-pub fn nine(returned: u64, answered: &[u64; 9]) {
+pub fn stop(returned: u64, answered: &StopWords) {
     answer(returned, answered);
 }
 
-pub fn ten(returned: u64, answered: &[u64; 10]) {
+pub fn found(returned: u64, answered: &FoundWords) {
     answer(returned, answered);
 }
 

@@ -1,9 +1,9 @@
--- `session_lists::wrote` is safe and ends. The measure is what is left of the entry.
+-- `session_lists::entries::wrote` is safe and ends. The measure is what is left of the entry.
 use Prim.Native.Nat.{_≤_, _-_}
 use lib.ListN.{length}
 use borrow.Author.Needs.{needs}
-use Rattle.session_lists.proofs.wrote.Statement.{statement}
-use Rattle.session_lists.proofs.wrote.Tie as tie
+use Rattle.session_lists.proofs.entries.wrote.Statement.{statement}
+use Rattle.session_lists.proofs.entries.wrote.Tie as tie
 
 abbrev Inv-loop : tie.InvT-loop
 Inv-loop entry i₀ i = i ≤ length entry
