@@ -9,8 +9,11 @@ import os
 import sys
 
 TOP = 2**64 - 1
-LENT = 9009  # crates/session/src/lending.rt
-ROOM = "lists 64 128"
+LENT = 9009  # crates/session_text/src/lent.rt
+ROOM = "lists 64 128 64"
+# the words of a store's header and of a record; of the groups of a line; of a selector
+HEADER, RECORD = 9, 15
+STOP, HOLDER, ELECTED, MOVED, ENTRY, SELECTOR = 13, 4, 15, 4, 5, 5
 
 
 class Words:
@@ -40,23 +43,23 @@ def capped(high, low):
 
 
 def elected(wanted, count):
-    """The entries of a list: thirteen words each, without the kind of the child's identity."""
+    """The entries of a list: those of the line without the kind of the child's identity, and with one word for the limit."""
     line = ""
     for k in range(count):
-        e = wanted.take(15)
+        e = wanted.take(ELECTED)
         line += f", elected {k}: {row(e[:8])} {e[8]} {capped(e[9], e[10])} {row(e[12:15])}"
     return line
 
 
 def rows(words):
     """Each stop of STOPS, as its words."""
-    return [words[2 + 9 * k:11 + 9 * k] for k in range(words[1])]
+    return [words[2 + STOP * k:2 + STOP * (k + 1)] for k in range(words[1])]
 
 
 def stops(before, wanted):
     """The next sequence and the pending count; each stop that is not as it was, by rising sequence; the sequence of each that is gone."""
     following, count = wanted.take(2)
-    after = [following, count, *wanted.take(9 * count)]
+    after = [following, count, *wanted.take(STOP * count)]
     old, new = rows(before), rows(after)
     line = f", stops {following} {count}" + "".join(" | " + row(stop) for stop in new if stop not in old)
     here = [stop[:3] for stop in new]
@@ -66,7 +69,7 @@ def stops(before, wanted):
 def book(given):
     """The tick, and the words of STOPS."""
     tick, following, count = given.take(3)
-    return tick, [following, count, *given.take(9 * count)]
+    return tick, [following, count, *given.take(STOP * count)]
 
 
 def settings(given):
@@ -75,7 +78,7 @@ def settings(given):
 
 
 def script(given):
-    return given.take(5 * given.one())
+    return given.take(ENTRY * given.one())
 
 
 def answer(number, words):
@@ -120,22 +123,26 @@ def on_path(name, given, wanted):
 
 def on_store(name, given, wanted):
     tick, before = book(given)
-    lines = [(f"words {9 + 11 * (before[1] + 1)} 0", ""), (f"book {tick} {row(before)}", "0")]
+    lines = [(f"words {HEADER + RECORD * (before[1] + 1)} 0", ""), (f"book {tick} {row(before)}", "0")]
     if name in ("admit", "clear", "run"):
         path = given.take(4)
         lines.append((f"path {row(path)}", ""))
     if name == "admit":
-        line = f"admit {row(given.take(11))}"
+        line = f"admit {row(given.take(11 + HOLDER))}"
         number, seq = wanted.take(2)
         after = stops(before, wanted)
         lines.append((line, f"{answer(number, [seq])}, path {row(wanted.take(4))}{after}"))
     elif name == "update":
         trade, identity, change = given.take(2), given.take(3), given.take(4)
-        lines.append((f"update {row(identity + change + trade)}", answer(wanted.one(), wanted.take(9)) + stops(before, wanted)))
+        lines.append((f"update {row(identity + change + trade)}", answer(wanted.one(), wanted.take(STOP)) + stops(before, wanted)))
     elif name == "cancel":
-        lines.append((f"cancel {row(given.take(3))}", answer(wanted.one(), wanted.take(9)) + stops(before, wanted)))
+        lines.append((f"cancel {row(given.take(3))}", answer(wanted.one(), wanted.take(STOP)) + stops(before, wanted)))
     elif name == "find":
-        lines.append((f"find {row(given.take(3))}", answer(0, wanted.take(10))))
+        lines.append((f"find {row(given.take(3))}", answer(0, wanted.take(1 + STOP))))
+    elif name in ("collect", "mass_cancel"):
+        selector, count = given.take(SELECTOR), wanted.one()
+        listed = "".join(f", collected {k}: {row(wanted.take(STOP))}" for k in range(count))
+        lines.append((f"{name} {row(selector)}", answer(0, [count]) + listed + stops(before, wanted)))
     elif name == "clear":
         after = stops(before, wanted)
         lines.append(("clear", f"0, path {row(wanted.take(4))}{after}"))
@@ -154,7 +161,7 @@ def segment(before, made, given, wanted):
     """The segment, and a walk along its prints on the same store, which elects and leaves the same."""
     of, prints = settings(given), given.take(4)
     counts = wanted.take(2)
-    moved = "".join(f", moved {k}: {row(wanted.take(4))}" for k in range(counts[0]))
+    moved = "".join(f", moved {k}: {row(wanted.take(MOVED))}" for k in range(counts[0]))
     entries = elected(wanted, counts[1])
     after = stops(before, wanted)
     prices = prints[2:3] if prints[2] == prints[3] else prints[2:4]
@@ -179,7 +186,7 @@ def converted(line):
     if name in ("record", "take", "reset"):
         lines = on_path(name, given, wanted)
     else:
-        stores = ("admit", "update", "cancel", "find", "clear", "segment", "pass", "run")
+        stores = ("admit", "update", "cancel", "find", "collect", "mass_cancel", "clear", "segment", "pass", "run")
         lines = (on_store if name in stores else by_values)(name, given, wanted)
     given.ended()
     wanted.ended()

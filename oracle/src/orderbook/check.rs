@@ -1,7 +1,7 @@
 // What must hold before a vector is worth anything: the published vectors of SHA-1 and of version 5 UUIDs, and document 01's examples
-// on the published code.
+// and document 02's holders on the published code.
 
-use super::desk::{Desk, Settings, Stop, terms};
+use super::desk::{Desk, Selector, Settings, Stop, terms};
 use super::repricing::calculate_trailing_stop_price;
 use super::stop_protection::StopProtection;
 use crate::sha1::sha1;
@@ -28,6 +28,7 @@ pub fn run() -> Result<(), String> {
     digests(&mut checks);
     leaves(&mut checks);
     segments(&mut checks)?;
+    holders(&mut checks)?;
     if checks.failed.is_empty() {
         println!("{} checks passed", checks.done);
         Ok(())
@@ -89,10 +90,11 @@ fn leaves(checks: &mut Checks) {
     checks.equal("preview", calculate_trailing_stop_price(Sell, 95, 10, 100, 101), None);
 }
 
+/// Each stop is held by [low, 0, 0, 7].
 fn desk(stops: &[(u64, Side, u64, u64, u64)]) -> Result<Desk, String> {
     let desk = Desk::new(Settings { tick: 0, kill: false, collar: 0, namespace: Uuid::from_bytes([0; 16]), last_trade: None })?;
     for &(low, side, stop, watermark, trail) in stops {
-        desk.admit(Stop { id: Id::from_words(2, 0, low), side, stop, watermark, trail, quantity: 1, seq: 0 })?
+        desk.admit(Stop { id: Id::from_words(2, 0, low), side, stop, watermark, trail, quantity: 1, seq: 0, holder: [low, 0, 0, 7] })?
             .map_err(|number| format!("an example is refused: {number}"))?;
     }
     Ok(desk)
@@ -125,5 +127,24 @@ fn segments(checks: &mut Checks) -> Result<(), String> {
     checks.equal("forecast, first", elected(&walked, None, 100, 100)?, vec![]);
     checks.equal("forecast, second", elected(&walked, Some(100), 97, 97)?, vec![(7, 97)]);
     checks.equal("forecast, third", elected(&walked, Some(97), 94, 94)?, vec![(9, 94)]);
+    Ok(())
+}
+
+/// Low words of the identities of what is collected.
+fn collected(desk: &Desk, selector: Selector) -> Result<Vec<u64>, String> {
+    Ok(desk.collect(selector)?.iter().map(|stop| stop.id.words()[2]).collect())
+}
+
+fn holders(checks: &mut Checks) -> Result<(), String> {
+    use Side::{Buy, Sell};
+    let desk = desk(&[(1, Sell, 95, 100, 5), (2, Buy, 105, 100, 5), (3, Sell, 94, 100, 5), (4, Sell, 95, 100, 5)])?;
+    checks.equal("of a holder", collected(&desk, Selector::Holder([3, 0, 0, 7]))?, vec![3]);
+    checks.equal("of no holder", collected(&desk, Selector::Holder([3, 0, 0, 8]))?, vec![]);
+    checks.equal("of a side", collected(&desk, Selector::Side(Sell))?, vec![1, 3, 4]);
+    checks.equal("closed at both ends", collected(&desk, Selector::Range(95, 105))?, vec![1, 2, 4]);
+    checks.equal("lowest above highest", collected(&desk, Selector::Range(95, 94))?, vec![]);
+    let cancelled = desk.mass_cancel(Selector::Range(95, 95))?;
+    checks.equal("cancelled in turn", cancelled.iter().map(|stop| stop.holder).collect(), vec![[1, 0, 0, 7], [4, 0, 0, 7]]);
+    checks.equal("left", collected(&desk, Selector::Range(0, TOP))?, vec![2, 3]);
     Ok(())
 }

@@ -8,6 +8,27 @@ use super::stop_orders::{StopEntry, StopTerms};
 use super::stop_protection::StopProtection;
 use pricelevel::{Hash32, Id, OrderType, OrderUpdate, Price, Quantity, Side, TimeInForce, Uuid};
 
+/// The words of a holder: the Rust's user identity, big-endian.
+pub const HOLDER_WORDS: usize = 4;
+
+pub type Holder = [u64; HOLDER_WORDS];
+
+fn user_of(holder: Holder) -> Hash32 {
+    let mut bytes = [0; 32];
+    for (part, word) in bytes.chunks_exact_mut(8).zip(holder) {
+        part.copy_from_slice(&word.to_be_bytes());
+    }
+    Hash32(bytes)
+}
+
+fn holder_of(user: Hash32) -> Holder {
+    let mut words = [0; HOLDER_WORDS];
+    for (word, part) in words.iter_mut().zip(user.0.as_chunks().0) {
+        *word = u64::from_be_bytes(*part);
+    }
+    words
+}
+
 /// A pending stop.
 #[derive(Debug, Clone, Copy, PartialEq, Eq)]
 pub struct Stop {
@@ -18,6 +39,26 @@ pub struct Stop {
     pub trail: u64,
     pub quantity: u64,
     pub seq: u64,
+    pub holder: Holder,
+}
+
+/// Which stops to collect.
+#[derive(Debug, Clone, Copy, PartialEq, Eq)]
+pub enum Selector {
+    Holder(Holder),
+    Side(Side),
+    /// Stop prices from the lowest to the highest.
+    Range(u64, u64),
+}
+
+impl Selector {
+    fn keeps(self, order: &OrderType<()>) -> bool {
+        match self {
+            Self::Holder(holder) => order.user_id() == user_of(holder),
+            Self::Side(side) => order.side() == side,
+            Self::Range(lowest, highest) => (u128::from(lowest)..=u128::from(highest)).contains(&order.price().as_u128()),
+        }
+    }
 }
 
 /// The print path's four fields.
@@ -63,9 +104,6 @@ pub struct Desk {
     pub book: OrderBook<()>,
 }
 
-// One user for all: identities decide nothing but self-trade prevention, which the script leaves out.
-const USER: Hash32 = Hash32([7; 32]);
-
 pub fn narrow(wide: u128) -> Result<u64, String> {
     u64::try_from(wide).map_err(|_| format!("{wide} is beyond 64 bits"))
 }
@@ -81,7 +119,7 @@ pub fn order(stop: Stop) -> OrderType<()> {
         price: Price::new(u128::from(stop.stop)),
         quantity: Quantity::new(stop.quantity),
         side: stop.side,
-        user_id: USER,
+        user_id: user_of(stop.holder),
         time_in_force: TimeInForce::Gtc,
         trail_amount: Quantity::new(stop.trail),
         last_reference_price: Price::new(u128::from(stop.watermark)),
@@ -100,6 +138,7 @@ fn stop_of(order: &OrderType<()>, seq: u64) -> Result<Stop, String> {
         trail: narrow(terms.trail)?,
         quantity: order.visible_quantity().as_u64(),
         seq,
+        holder: holder_of(order.user_id()),
     })
 }
 
@@ -225,6 +264,24 @@ impl Desk {
         }
     }
 
+    /// The collected stops, by rising sequence.
+    pub fn collect(&self, selector: Selector) -> Result<Vec<Stop>, String> {
+        self.book.pending_stops.collect(|order| selector.keeps(order)).iter().map(stop_of_entry).collect()
+    }
+
+    /// Cancels what the Rust collects, by its list of identities, one after the other, as its mass cancels do. Answers what was cancelled.
+    pub fn mass_cancel(&self, selector: Selector) -> Result<Vec<Stop>, String> {
+        let path = self.path()?;
+        let mut cancelled = Vec::new();
+        for id in self.book.pending_stop_ids(|order| selector.keeps(order)) {
+            cancelled.push(self.cancel(id)?.map_err(|_| "a collected stop is not pending")?);
+        }
+        if self.path()? != path {
+            return Err("a mass cancel altered the path".to_string());
+        }
+        Ok(cancelled)
+    }
+
     /// Opens the path at a sweep's first print and sets the last trade to its last, as matching does.
     pub fn print(&self, prev: Option<u64>, first: u64, last: u64) {
         self.book.pending_stops.reset_path();
@@ -322,7 +379,7 @@ impl Desk {
             Some(Event::State { id: told, status: OrderStatus::Triggered { child_id, trigger_price, limit_price } })
                 if told == id && child_id == child =>
             {
-                let runs = Event::Child { id: child, side: stop.side, quantity: stop.quantity, limit: limit_price, user: USER };
+                let runs = Event::Child { id: child, side: stop.side, quantity: stop.quantity, limit: limit_price, user: user_of(stop.holder) };
                 if events.next() != Some(runs) {
                     return Err(format!("the child of {stop:?} does not run as told"));
                 }

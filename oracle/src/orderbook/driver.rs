@@ -1,7 +1,7 @@
 // The generator: books and calls from a seed, and one line for each call. README.md has the format.
 
 use super::book::Printed;
-use super::desk::{Desk, Elected, Evaluated, Path, Settings, Stop, narrow, terms};
+use super::desk::{Desk, Elected, Evaluated, HOLDER_WORDS, Holder, Path, Selector, Settings, Stop, narrow, terms};
 use super::error::inconsistency_number;
 use super::repricing::calculate_trailing_stop_price;
 use super::stop_orders::stop_trigger_order_id;
@@ -12,6 +12,9 @@ use pricelevel::{Id, OrderUpdate, Price, Quantity, Side, Uuid};
 use std::io::{BufWriter, Write};
 
 const TOP: u64 = u64::MAX;
+
+/// The words of a stop: identity, terms, quantity, sequence and holder.
+const STOP_WORDS: usize = 9 + HOLDER_WORDS;
 
 pub fn run(seed: u64, count: u64) -> Result<(), String> {
     let mut out = BufWriter::new(std::io::stdout().lock());
@@ -82,15 +85,20 @@ impl Line {
         self.id(stop.id);
         self.side(stop.side);
         self.words(&[stop.stop, stop.watermark, stop.trail, stop.quantity, stop.seq]);
+        self.words(&stop.holder);
+    }
+
+    /// How many there are, and each.
+    fn list(&mut self, stops: &[Stop]) {
+        self.word(stops.len() as u64);
+        for stop in stops {
+            self.stop(stop);
+        }
     }
 
     fn stops(&mut self, desk: &Desk) -> Result<(), String> {
-        let stops = desk.stops()?;
         self.word(desk.next_seq()?);
-        self.word(stops.len() as u64);
-        for stop in &stops {
-            self.stop(stop);
-        }
+        self.list(&desk.stops()?);
         Ok(())
     }
 
@@ -105,7 +113,7 @@ impl Line {
         self.words(&[path.prev, path.first]);
     }
 
-    /// Number 0 and the record, or the number of the refusal and nine zeros.
+    /// Number 0 and the record, or the number of the refusal and zeros.
     fn answer(&mut self, answer: Result<Stop, u64>) {
         match answer {
             Ok(stop) => {
@@ -114,7 +122,7 @@ impl Line {
             }
             Err(number) => {
                 self.word(number);
-                self.words(&[0; 9]);
+                self.words(&[0; STOP_WORDS]);
             }
         }
     }
@@ -167,6 +175,8 @@ struct Session<'a> {
     scale: Scale,
     /// Identities in use, among them children of others, so that a child's identity is at times pending.
     ids: Vec<Id>,
+    /// Holders in use, of which many differ in one word only.
+    holders: Vec<Holder>,
     /// About how many stops are kept pending.
     target: u64,
 }
@@ -191,6 +201,16 @@ impl<'a> Session<'a> {
                 ids.push(child);
             }
         }
+        let any = random.word();
+        let mut holders: Vec<Holder> = vec![std::array::from_fn(|_| random.pick(&[0, 0, 1, TOP, any]))];
+        while (holders.len() as u64) < 2 + target / 2 {
+            let mut holder = random.pick(&holders);
+            let bit = random.below(64);
+            holder[random.below(HOLDER_WORDS as u64) as usize] ^= random.pick(&[1, 1, 2, 1 << bit]);
+            if !holders.contains(&holder) {
+                holders.push(holder);
+            }
+        }
         let desk = Desk::new(Settings { tick, kill: false, collar: 0, namespace, last_trade: None })?;
         let last_sequences = [TOP, 1 << 63, 1 << 32];
         if random.chance(15) {
@@ -198,7 +218,7 @@ impl<'a> Session<'a> {
             let next = random.pick(&last_sequences) - random.below(2 * target + 4);
             desk.book.pending_stops.set_next_seq(next);
         }
-        Ok(Self { random, desk, scale, ids, target })
+        Ok(Self { random, desk, scale, ids, holders, target })
     }
 
     fn price(&mut self) -> u64 {
@@ -279,6 +299,7 @@ impl<'a> Session<'a> {
             trail: self.trail(),
             quantity: self.quantity(),
             seq: 0,
+            holder: self.random.pick(&self.holders),
         };
         for _ in 0..20 {
             let made = terms(stop.side, stop.stop, stop.watermark, stop.trail);
@@ -331,12 +352,14 @@ impl<'a> Session<'a> {
     fn line(&mut self) -> Result<String, String> {
         self.stir()?;
         let line = match self.random.below(100) {
-            0..22 => self.admit(),
-            22..35 => self.update(),
-            35..39 => self.cancel(),
-            39..41 => self.find(),
-            41..53 => self.segment(),
-            53..67 => self.pass(),
+            0..20 => self.admit(),
+            20..32 => self.update(),
+            32..36 => self.cancel(),
+            36..38 => self.find(),
+            38..42 => self.collect(),
+            42..45 => self.mass_cancel(),
+            45..55 => self.segment(),
+            55..67 => self.pass(),
             67..78 => self.run(),
             78..83 => self.one_of_the_path(),
             83..84 => self.clear(),
@@ -364,6 +387,7 @@ impl<'a> Session<'a> {
         line.id(stop.id);
         line.side(stop.side);
         line.words(&[stop.stop, stop.watermark, stop.trail, stop.quantity]);
+        line.words(&stop.holder);
         let answer = self.desk.admit(stop)?;
         line.answers();
         line.word(answer.err().unwrap_or(0));
@@ -463,8 +487,85 @@ impl<'a> Session<'a> {
                 line.word(1);
                 line.stop(&stop);
             }
-            None => line.words(&[0; 10]),
+            None => line.words(&[0; 1 + STOP_WORDS]),
         }
+        Ok(line)
+    }
+
+    /// A selector that is likely to find some, and not all.
+    fn selector(&mut self) -> Result<Selector, String> {
+        let stops = self.desk.stops()?;
+        let kind = self.random.below(3);
+        if kind == 1 {
+            return Ok(Selector::Side(self.side()));
+        }
+        if kind == 0 {
+            return Ok(Selector::Holder(self.random.pick(&self.holders)));
+        }
+        // The ends are often the very price of some stop.
+        let mut end = || match stops.len() {
+            0 => self.price(),
+            _ if self.random.chance(40) => self.price(),
+            many => stops[self.random.below(many as u64) as usize].stop,
+        };
+        let (one, other) = (end(), end());
+        // At times lowest above highest, at times the whole range.
+        Ok(match self.random.below(100) {
+            0..10 => Selector::Range(one.max(other), one.min(other)),
+            10..15 => Selector::Range(0, TOP),
+            15..30 => Selector::Range(one, one),
+            _ => Selector::Range(one.min(other), one.max(other)),
+        })
+    }
+
+    /// The kind of a selector and four words; those that it leaves unused hold anything.
+    fn select(&mut self, line: &mut Line, selector: Selector) {
+        let any = self.random.word();
+        match selector {
+            Selector::Holder(holder) => {
+                line.word(0);
+                line.words(&holder);
+            }
+            Selector::Side(side) => {
+                line.word(1);
+                line.side(side);
+                line.words(&[any, 0, any]);
+            }
+            Selector::Range(lowest, highest) => line.words(&[2, lowest, highest, 0, any]),
+        }
+    }
+
+    fn collect(&mut self) -> Result<Line, String> {
+        if self.random.chance(75) {
+            self.fill()?;
+        }
+        let selector = self.selector()?;
+        let mut line = Line::new("collect");
+        line.book(&self.desk)?;
+        self.select(&mut line, selector);
+        let collected = self.desk.collect(selector)?;
+        line.answers();
+        line.list(&collected);
+        line.stops(&self.desk)?;
+        Ok(line)
+    }
+
+    fn mass_cancel(&mut self) -> Result<Line, String> {
+        if self.random.chance(75) {
+            self.fill()?;
+        }
+        let selector = self.selector()?;
+        let mut line = Line::new("mass_cancel");
+        line.book(&self.desk)?;
+        self.select(&mut line, selector);
+        let collected = self.desk.collect(selector)?;
+        let cancelled = self.desk.mass_cancel(selector)?;
+        if cancelled != collected {
+            return Err("what was cancelled is not what was collected".to_string());
+        }
+        line.answers();
+        line.list(&cancelled);
+        line.stops(&self.desk)?;
         Ok(line)
     }
 
