@@ -14,8 +14,8 @@
  * - no other thread uses what a call is lent to write while the call runs, or writes what it reads.
  * The words themselves may be any: a damaged store is refused.
  *
- * The stack: no call allocates, and none needs more than YUBTOMIQ_STACK_BYTES of stack, at its worst a pass over 700 stops whose children's
- * identities are searched in a full store. The proofs do not speak of the stack; tests/test.c runs that worst case on a thread that has no more.
+ * The stack: no call allocates, and none needs more than YUBTOMIQ_STACK_BYTES of stack, at its worst a pass over YUBTOMIQ_MOST_RECORDS stops whose
+ * children's identities are searched in a full store. The proofs do not speak of the stack; tests/test.c runs that worst case on a thread that has no more.
  */
 #ifndef YUBTOMIQ_H
 #define YUBTOMIQ_H
@@ -30,7 +30,7 @@ extern "C" {
 enum yubtomiq_refusal {
     YUBTOMIQ_ACCEPTED = 0,
     YUBTOMIQ_STORE_NOT_WELL_FORMED = 1,
-    YUBTOMIQ_LAYOUT_OUT_OF_RANGE = 2,      /* records not from 1 to 700, or too few words for them */
+    YUBTOMIQ_LAYOUT_OUT_OF_RANGE = 2,      /* records not from 1 to YUBTOMIQ_MOST_RECORDS, or too few words */
     YUBTOMIQ_KILL_SWITCH_ACTIVE = 3,
     YUBTOMIQ_ZERO_QUANTITY = 4,
     YUBTOMIQ_ZERO_TRAIL = 5,
@@ -42,12 +42,12 @@ enum yubtomiq_refusal {
     YUBTOMIQ_SEQUENCE_EXHAUSTED = 11,
     YUBTOMIQ_ORDER_NOT_FOUND = 12,
     YUBTOMIQ_SAME_PRICE = 13,              /* a change of the price alone, to the price that it is */
-    YUBTOMIQ_LIST_TOO_SHORT = 14,          /* elected: the pending count; moved, of a segment: twice that */
+    YUBTOMIQ_LIST_TOO_SHORT = 14,          /* elected and collected: the pending count; moved, of a segment: twice that */
     YUBTOMIQ_INVALID_SCRIPT = 15,          /* no whole entries, or a flag that is not 0 or 1 */
     YUBTOMIQ_PRICE_COUNT_OUT_OF_RANGE = 16, /* prices of a walk: 1 to 4,096 */
     YUBTOMIQ_ZERO_COLLAR = 17,
     YUBTOMIQ_COLLAR_OFF_TICK = 18,
-    YUBTOMIQ_UNKNOWN_VALUE = 255           /* asked first: a kind, a side, a change or a path's flag that is none of those below */
+    YUBTOMIQ_UNKNOWN_VALUE = 255           /* asked first: a kind, a side, a change, a selector or a path's flag that is none of those below */
 };
 
 enum yubtomiq_kind { YUBTOMIQ_UUID = 0, YUBTOMIQ_ULID = 1, YUBTOMIQ_SEQUENTIAL = 2 };
@@ -59,9 +59,23 @@ enum yubtomiq_change {
     YUBTOMIQ_REPLACE = 3
 };
 
-/* A store of n records is n * 11 + 9 words, or more; those beyond are not touched. */
-#define YUBTOMIQ_MOST_RECORDS 700
-#define YUBTOMIQ_STORE_WORDS(n) (9 + 11 * (size_t)(n))
+/* How a selector names stops: by what the words behind its kind are. */
+enum yubtomiq_selector_kind {
+    YUBTOMIQ_BY_HOLDER = 0,     /* the four words of the holder */
+    YUBTOMIQ_BY_SIDE = 1,       /* the side, and three words that are not looked at */
+    YUBTOMIQ_BY_PRICE_RANGE = 2 /* the lowest and the highest stop price, both included, and two words that are not looked at */
+};
+
+/* A store of n records is YUBTOMIQ_STORE_WORDS(n) words, or more; those beyond are not touched. */
+#define YUBTOMIQ_HEADER_WORDS 9
+#define YUBTOMIQ_RECORD_WORDS 15
+#define YUBTOMIQ_MOST_RECORDS 545
+#define YUBTOMIQ_STORE_WORDS(n) (YUBTOMIQ_HEADER_WORDS + YUBTOMIQ_RECORD_WORDS * (size_t)(n))
+
+/* The words of a holder, of a selector, and of a stop: a record without its two next indices, which is an entry of a list of collected stops too. */
+#define YUBTOMIQ_HOLDER_WORDS 4
+#define YUBTOMIQ_SELECTOR_WORDS (1 + YUBTOMIQ_HOLDER_WORDS)
+#define YUBTOMIQ_COLLECTED_WORDS (YUBTOMIQ_RECORD_WORDS - 2)
 
 /* Stack that is enough for any call. */
 #define YUBTOMIQ_STACK_BYTES (80 * 1024)
@@ -76,6 +90,11 @@ enum yubtomiq_change {
 typedef struct yubtomiq_id {
     uint64_t kind, high, low;
 } yubtomiq_id;
+
+/* The 32 bytes of a stop's holder as four words, big-endian. */
+typedef struct yubtomiq_holder {
+    uint64_t words[YUBTOMIQ_HOLDER_WORDS];
+} yubtomiq_holder;
 
 typedef struct yubtomiq_namespace {
     uint64_t high, low;
@@ -116,7 +135,28 @@ typedef struct yubtomiq_settings {
 
 typedef struct yubtomiq_stop {
     uint64_t kind, high, low, side, stop, watermark, trail, quantity, seq;
+    yubtomiq_holder holder;
 } yubtomiq_stop;
+
+/* Which pending stops to collect (enum yubtomiq_selector_kind). A lowest price above the highest collects none. */
+typedef struct yubtomiq_selector {
+    uint64_t kind, words[YUBTOMIQ_SELECTOR_WORDS - 1];
+} yubtomiq_selector;
+
+static inline yubtomiq_selector yubtomiq_by_holder(yubtomiq_holder holder) {
+    yubtomiq_selector s = {YUBTOMIQ_BY_HOLDER, {holder.words[0], holder.words[1], holder.words[2], holder.words[3]}};
+    return s;
+}
+
+static inline yubtomiq_selector yubtomiq_by_side(uint64_t side) {
+    yubtomiq_selector s = {YUBTOMIQ_BY_SIDE, {side, 0, 0, 0}};
+    return s;
+}
+
+static inline yubtomiq_selector yubtomiq_by_price_range(uint64_t lowest, uint64_t highest) {
+    yubtomiq_selector s = {YUBTOMIQ_BY_PRICE_RANGE, {lowest, highest, 0, 0}};
+    return s;
+}
 
 typedef struct yubtomiq_found {
     uint64_t found;
@@ -167,12 +207,13 @@ uint64_t yubtomiq_layout_store(uint64_t *words, size_t count, uint64_t n, uint64
 /* Returns 1 if the words are a well-formed store, else 0. */
 uint64_t yubtomiq_well_formed(const uint64_t *words, size_t count);
 
-/* Admits a stop and writes its sequence. Into an empty store it closes the path. Refused: 255, 1, 3 to 11. */
+/* Admits a stop for its holder, of whom nothing is asked, and writes its sequence. Into an empty store it closes the path.
+ * Refused: 255, 1, 3 to 11. */
 uint64_t yubtomiq_admit_trailing_stop(uint64_t *words, size_t count, yubtomiq_path *path, uint64_t kill,
                                       const yubtomiq_price *last_trade, const yubtomiq_id *id, const yubtomiq_terms *terms,
-                                      uint64_t quantity, uint64_t *sequence);
+                                      uint64_t quantity, const yubtomiq_holder *holder, uint64_t *sequence);
 
-/* Changes a pending stop and writes it as it is after the change; a quantity of zero cancels, and writes it as it was.
+/* Changes a pending stop and writes it as it is after the change; a quantity of zero cancels, and writes it as it was. Its holder stays.
  * Refused: 255, 1, 12, 13, 4, 6, 7, 11. */
 uint64_t yubtomiq_update_pending_stop(uint64_t *words, size_t count, const yubtomiq_id *id, const yubtomiq_update *update,
                                       const yubtomiq_price *last_trade, yubtomiq_stop *answer);
@@ -185,6 +226,15 @@ uint64_t yubtomiq_pending_stop_order(const uint64_t *words, size_t count, const 
 
 /* Writes the pending quantity of each side. Refused: 1. */
 uint64_t yubtomiq_pending_stop_quantity(const uint64_t *words, size_t count, yubtomiq_totals *answer);
+
+/* Lists the selected stops by rising sequence, from the start of a list that has an entry for every pending stop, and writes how many they are.
+ * Later entries stay, and so does the store. Refused: 255, 1, 14. */
+uint64_t yubtomiq_collect(const uint64_t *words, size_t count, const yubtomiq_selector *selector, yubtomiq_stop *list, size_t list_count,
+                          uint64_t *listed);
+
+/* The same, and then a cancel of each listed stop, in that order. The path is not touched. Refused: 255, 1, 14. */
+uint64_t yubtomiq_mass_cancel(uint64_t *words, size_t count, const yubtomiq_selector *selector, yubtomiq_stop *list, size_t list_count,
+                              uint64_t *listed);
 
 /* Empties the store, with the same n and tick, and closes the path. Refused: 255, 1. */
 uint64_t yubtomiq_clear(uint64_t *words, size_t count, yubtomiq_path *path);

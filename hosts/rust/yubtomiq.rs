@@ -5,8 +5,33 @@
 
 use std::num::NonZeroU64;
 
+/// The words of a store: those of its header and of each record, and the most records.
+pub const HEADER_WORDS: usize = 9;
+pub const RECORD_WORDS: usize = 15;
+pub const MOST_RECORDS: u64 = 545;
+
+/// The words of a holder.
+pub const HOLDER_WORDS: usize = 4;
+
+/// The words of a stop: a record without its two next indices.
+pub const STOP_WORDS: usize = RECORD_WORDS - 2;
+
+/// The words of an entry of a list: of the elected, and of the moved.
+pub const ELECTED_WORDS: usize = 13;
+pub const MOVED_WORDS: usize = 4;
+
+/// What a call reads or writes, as words.
+type HolderWords = [u64; HOLDER_WORDS];
+type SelectorWords = [u64; 1 + HOLDER_WORDS];
+type StopWords = [u64; STOP_WORDS];
+type FoundWords = [u64; 1 + STOP_WORDS];
+type ElectedWords = [u64; ELECTED_WORDS];
+type MovedWords = [u64; MOVED_WORDS];
+
 /// The calls as the library has them. A slice is passed as a pointer and a count of elements.
 mod library {
+    use super::{ElectedWords, FoundWords, HolderWords, MovedWords, SelectorWords, StopWords};
+
     unsafe extern "C" {
         pub fn yubtomiq_layout_store(words: *mut u64, count: usize, n: u64, tick: u64) -> u64;
         pub fn yubtomiq_well_formed(words: *const u64, count: usize) -> u64;
@@ -19,6 +44,7 @@ mod library {
             id: &[u64; 3],
             terms: &[u64; 4],
             quantity: u64,
+            holder: &HolderWords,
             answer: &mut [u64; 1],
         ) -> u64;
         pub fn yubtomiq_update_pending_stop(
@@ -27,11 +53,27 @@ mod library {
             id: &[u64; 3],
             update: &[u64; 4],
             last_trade: &[u64; 2],
-            answer: &mut [u64; 9],
+            answer: &mut StopWords,
         ) -> u64;
-        pub fn yubtomiq_cancel_pending_stop(words: *mut u64, count: usize, id: &[u64; 3], answer: &mut [u64; 9]) -> u64;
-        pub fn yubtomiq_pending_stop_order(words: *const u64, count: usize, id: &[u64; 3], answer: &mut [u64; 10]) -> u64;
+        pub fn yubtomiq_cancel_pending_stop(words: *mut u64, count: usize, id: &[u64; 3], answer: &mut StopWords) -> u64;
+        pub fn yubtomiq_pending_stop_order(words: *const u64, count: usize, id: &[u64; 3], answer: &mut FoundWords) -> u64;
         pub fn yubtomiq_pending_stop_quantity(words: *const u64, count: usize, answer: &mut [u64; 4]) -> u64;
+        pub fn yubtomiq_collect(
+            words: *const u64,
+            count: usize,
+            selector: &SelectorWords,
+            list: *mut StopWords,
+            list_count: usize,
+            answer: &mut [u64; 1],
+        ) -> u64;
+        pub fn yubtomiq_mass_cancel(
+            words: *mut u64,
+            count: usize,
+            selector: &SelectorWords,
+            list: *mut StopWords,
+            list_count: usize,
+            answer: &mut [u64; 1],
+        ) -> u64;
         pub fn yubtomiq_clear(words: *mut u64, count: usize, path: &mut [u64; 4]) -> u64;
         pub fn yubtomiq_record_print(path: &mut [u64; 4], pending: u64, prev: &[u64; 2], price: u64) -> u64;
         pub fn yubtomiq_take_path(path: &mut [u64; 4], last_trade: &[u64; 2], answer: &mut [u64; 5]) -> u64;
@@ -41,9 +83,9 @@ mod library {
             count: usize,
             settings: &[u64; 4],
             prints: &[u64; 4],
-            elected: *mut [u64; 13],
+            elected: *mut ElectedWords,
             elected_count: usize,
-            moved: *mut [u64; 4],
+            moved: *mut MovedWords,
             moved_count: usize,
             answer: &mut [u64; 2],
         ) -> u64;
@@ -54,7 +96,7 @@ mod library {
             prev: &[u64; 2],
             prices: *const u64,
             price_count: usize,
-            elected: *mut [u64; 13],
+            elected: *mut ElectedWords,
             elected_count: usize,
             answer: &mut [u64; 2],
         ) -> u64;
@@ -67,11 +109,11 @@ mod library {
             prev: &[u64; 2],
             prices: *const u64,
             price_count: usize,
-            elected: *mut [u64; 13],
+            elected: *mut ElectedWords,
             elected_count: usize,
-            moved: *mut [u64; 4],
+            moved: *mut MovedWords,
             moved_count: usize,
-            listed: *mut [u64; 13],
+            listed: *mut ElectedWords,
             listed_count: usize,
             answer: &mut [u64; 6],
         );
@@ -82,7 +124,7 @@ mod library {
             script: *const u64,
             script_words: usize,
             prints: &[u64; 4],
-            elected: *mut [u64; 13],
+            elected: *mut ElectedWords,
             elected_count: usize,
             answer: &mut [u64; 3],
         ) -> u64;
@@ -94,7 +136,7 @@ mod library {
             script: *const u64,
             script_words: usize,
             last_trade: &[u64; 2],
-            elected: *mut [u64; 13],
+            elected: *mut ElectedWords,
             elected_count: usize,
             answer: &mut [u64; 3],
         ) -> u64;
@@ -240,6 +282,27 @@ impl Id {
     }
 }
 
+/// The holder of a stop: 32 bytes, as four big-endian words.
+#[derive(Clone, Copy, Debug, Default, PartialEq, Eq)]
+pub struct Holder {
+    pub words: [u64; HOLDER_WORDS],
+}
+
+impl Holder {
+    fn of(w: &[u64]) -> Holder {
+        Holder { words: std::array::from_fn(|k| w[k]) }
+    }
+
+    pub fn from_bytes(bytes: [u8; 8 * HOLDER_WORDS]) -> Holder {
+        let word = |k: usize| u64::from_be_bytes(std::array::from_fn(|i| bytes[8 * k + i]));
+        Holder { words: std::array::from_fn(word) }
+    }
+
+    pub fn to_bytes(self) -> [u8; 8 * HOLDER_WORDS] {
+        std::array::from_fn(|i| self.words[i / 8].to_be_bytes()[i % 8])
+    }
+}
+
 /// The namespace of child identities.
 #[derive(Clone, Copy, Debug, Default, PartialEq, Eq)]
 pub struct Namespace {
@@ -302,15 +365,38 @@ pub struct Stop {
     pub terms: StopTerms,
     pub quantity: u64,
     pub seq: u64,
+    pub holder: Holder,
 }
 
 impl Stop {
     fn of(w: &[u64]) -> Stop {
-        Stop { id: Id::of(w), terms: StopTerms::of(&w[3..]), quantity: w[7], seq: w[8] }
+        Stop { id: Id::of(w), terms: StopTerms::of(&w[3..]), quantity: w[7], seq: w[8], holder: Holder::of(&w[9..]) }
     }
 }
 
-/// A change of a pending stop. Its watermark and trail stay.
+/// Which pending stops to collect.
+#[derive(Clone, Copy, Debug, PartialEq, Eq)]
+pub enum Selector {
+    Holder(Holder),
+    Side(Side),
+    /// Both included; a lowest above the highest selects none.
+    StopPrices {
+        lowest: u64,
+        highest: u64,
+    },
+}
+
+impl Selector {
+    fn words(self) -> SelectorWords {
+        match self {
+            Selector::Holder(Holder { words: [a, b, c, d] }) => [0, a, b, c, d],
+            Selector::Side(side) => [1, side as u64, 0, 0, 0],
+            Selector::StopPrices { lowest, highest } => [2, lowest, highest, 0, 0],
+        }
+    }
+}
+
+/// A change of a pending stop. Its watermark, trail and holder stay.
 #[derive(Clone, Copy, Debug, PartialEq, Eq)]
 pub enum Update {
     /// Zero cancels.
@@ -443,7 +529,7 @@ pub struct Elected {
 }
 
 impl Elected {
-    fn of(w: &[u64; 13]) -> Elected {
+    fn of(w: &ElectedWords) -> Elected {
         Elected {
             id: Id::of(w),
             side: Side::of(w[3]),
@@ -480,7 +566,7 @@ pub struct Segment {
 }
 
 impl Segment {
-    fn of(moved: &[[u64; 4]], elected: &[[u64; 13]]) -> Segment {
+    fn of(moved: &[MovedWords], elected: &[ElectedWords]) -> Segment {
         Segment {
             moved: moved.iter().map(|w| Moved { id: Id::of(w), stop: w[3] }).collect(),
             elected: elected.iter().map(Elected::of).collect(),
@@ -496,7 +582,7 @@ pub struct Walk {
 }
 
 impl Walk {
-    fn of(moves: u64, elected: &[[u64; 13]]) -> Walk {
+    fn of(moves: u64, elected: &[ElectedWords]) -> Walk {
         Walk { moves, elected: elected.iter().map(Elected::of).collect() }
     }
 }
@@ -519,9 +605,6 @@ pub struct Pass {
 // ---------------------------------------------------------------------
 // The store
 
-/// The most records that a store can have.
-pub const MOST_RECORDS: u64 = 700;
-
 /// A store of pending stops: its words, which a host may keep and hand back as they are.
 #[derive(Clone, Debug, PartialEq, Eq)]
 pub struct Store {
@@ -531,7 +614,7 @@ pub struct Store {
 impl Store {
     /// An empty store of n records; a tick of 0 is none. Refused: [`Refusal::LayoutOutOfRange`].
     pub fn new(n: u64, tick: u64) -> Result<Store, Refusal> {
-        let mut words = vec![0; 9 + 11 * n.min(MOST_RECORDS) as usize];
+        let mut words = vec![0; HEADER_WORDS + RECORD_WORDS * n.min(MOST_RECORDS) as usize];
         let number = unsafe { library::yubtomiq_layout_store(words.as_mut_ptr(), words.len(), n, tick) };
         done(number, Store { words })
     }
@@ -558,7 +641,7 @@ impl Store {
         self.words.get(1).map_or(0, |&count| count.min(MOST_RECORDS))
     }
 
-    /// Admits a stop, and answers its sequence. Into an empty store it closes the path.
+    /// Admits a stop for its holder, and answers its sequence. Into an empty store it closes the path.
     #[allow(clippy::too_many_arguments)]
     pub fn admit_trailing_stop(
         &mut self,
@@ -568,6 +651,7 @@ impl Store {
         id: Id,
         terms: StopTerms,
         quantity: u64,
+        holder: Holder,
     ) -> Result<u64, Refusal> {
         let mut answer = [0; 1];
         let (words, count) = (self.words.as_mut_ptr(), self.words.len());
@@ -581,6 +665,7 @@ impl Store {
                 &id.words(),
                 &terms.words(),
                 quantity,
+                &holder.words,
                 &mut answer,
             )
         });
@@ -589,7 +674,7 @@ impl Store {
 
     /// Changes a pending stop, and answers it after the change; a quantity of zero cancels, and answers it as it was.
     pub fn update_pending_stop(&mut self, id: Id, update: Update, last_trade: Option<u64>) -> Result<Stop, Refusal> {
-        let mut answer = [0; 9];
+        let mut answer = [0; STOP_WORDS];
         let number = unsafe {
             library::yubtomiq_update_pending_stop(
                 self.words.as_mut_ptr(),
@@ -605,7 +690,7 @@ impl Store {
 
     /// Takes a pending stop out, and answers it as it was.
     pub fn cancel_pending_stop(&mut self, id: Id) -> Result<Stop, Refusal> {
-        let mut answer = [0; 9];
+        let mut answer = [0; STOP_WORDS];
         let (words, count) = (self.words.as_mut_ptr(), self.words.len());
         let number = unsafe { library::yubtomiq_cancel_pending_stop(words, count, &id.words(), &mut answer) };
         done(number, answer).map(|w| Stop::of(&w))
@@ -613,7 +698,7 @@ impl Store {
 
     /// The pending stop of an identity, if there is one.
     pub fn pending_stop_order(&self, id: Id) -> Result<Option<Stop>, Refusal> {
-        let mut answer = [0; 10];
+        let mut answer = [0; 1 + STOP_WORDS];
         let (words, count) = (self.words.as_ptr(), self.words.len());
         let number = unsafe { library::yubtomiq_pending_stop_order(words, count, &id.words(), &mut answer) };
         done(number, answer).map(|w| if w[0] == 0 { None } else { Some(Stop::of(&w[1..])) })
@@ -628,6 +713,28 @@ impl Store {
         done(number, answer).map(|w| Totals { sell: sum(w[0], w[1]), buy: sum(w[2], w[3]) })
     }
 
+    /// The selected stops by rising sequence.
+    pub fn collect(&self, selector: Selector) -> Result<Vec<Stop>, Refusal> {
+        let mut list = self.list();
+        let mut answer = [0; 1];
+        let (words, count) = (self.words.as_ptr(), self.words.len());
+        let number = unsafe {
+            library::yubtomiq_collect(words, count, &selector.words(), list.as_mut_ptr(), list.len(), &mut answer)
+        };
+        done(number, answer).map(|[listed]| stops(&list[..listed as usize]))
+    }
+
+    /// Takes the selected stops out, by rising sequence, and answers them as they were.
+    pub fn mass_cancel(&mut self, selector: Selector) -> Result<Vec<Stop>, Refusal> {
+        let mut list = self.list();
+        let mut answer = [0; 1];
+        let (words, count) = (self.words.as_mut_ptr(), self.words.len());
+        let number = unsafe {
+            library::yubtomiq_mass_cancel(words, count, &selector.words(), list.as_mut_ptr(), list.len(), &mut answer)
+        };
+        done(number, answer).map(|[listed]| stops(&list[..listed as usize]))
+    }
+
     /// Empties the store, with the same number of records and tick, and closes the path.
     pub fn clear(&mut self, path: &mut PrintPath) -> Result<(), Refusal> {
         let (words, count) = (self.words.as_mut_ptr(), self.words.len());
@@ -638,15 +745,15 @@ impl Store {
     // -----------------------------------------------------------------
     // Evaluation
 
-    /// A list with room for all that the store can elect.
-    fn elected_list(&self) -> Vec<[u64; 13]> {
-        vec![[0; 13]; self.pending() as usize]
+    /// A list with an entry for every pending stop.
+    fn list<const N: usize>(&self) -> Vec<[u64; N]> {
+        vec![[0; N]; self.pending() as usize]
     }
 
     /// A segment: a point at the first print and one at the last.
     pub fn segment(&mut self, settings: Settings, prints: Prints) -> Result<Segment, Refusal> {
-        let mut elected = self.elected_list();
-        let mut moved = vec![[0; 4]; 2 * elected.len()];
+        let mut elected = self.list();
+        let mut moved = vec![[0; MOVED_WORDS]; 2 * elected.len()];
         let mut answer = [0; 2];
         let number = unsafe {
             library::yubtomiq_segment(
@@ -666,7 +773,7 @@ impl Store {
 
     /// A walk: a point at each price in turn.
     pub fn walk(&mut self, settings: Settings, prev: Option<u64>, prices: &[u64]) -> Result<Walk, Refusal> {
-        let mut elected = self.elected_list();
+        let mut elected = self.list();
         let mut answer = [0; 2];
         let number = unsafe {
             library::yubtomiq_walk(
@@ -686,7 +793,7 @@ impl Store {
 
     /// A pass: segments from a queue, at first this one. See [`script_words`].
     pub fn evaluate_pending_stops(&mut self, settings: Settings, script: &[u64], prints: Prints) -> Result<Pass, Refusal> {
-        let mut elected = self.elected_list();
+        let mut elected = self.list();
         let mut answer = [0; 3];
         let number = unsafe {
             library::yubtomiq_evaluate_pending_stops(
@@ -713,7 +820,7 @@ impl Store {
         script: &[u64],
         last_trade: Option<u64>,
     ) -> Result<Pass, Refusal> {
-        let mut elected = self.elected_list();
+        let mut elected = self.list();
         let mut answer = [0; 3];
         let (words, count) = (self.words.as_mut_ptr(), self.words.len());
         let number = path.lend(|path| unsafe {
@@ -734,7 +841,11 @@ impl Store {
     }
 }
 
-fn passed([moves, count, used]: [u64; 3], elected: &[[u64; 13]]) -> Pass {
+fn stops(list: &[StopWords]) -> Vec<Stop> {
+    list.iter().map(|w| Stop::of(w)).collect()
+}
+
+fn passed([moves, count, used]: [u64; 3], elected: &[ElectedWords]) -> Pass {
     Pass { moves, elected: elected[..count as usize].iter().map(Elected::of).collect(), used }
 }
 
@@ -750,9 +861,9 @@ pub fn evaluate_both_ways(
     prev: Option<u64>,
     prices: &[u64],
 ) -> BothWays {
-    let mut elected = ends.elected_list();
-    let mut moved = vec![[0; 4]; 2 * elected.len()];
-    let mut listed = run.elected_list();
+    let mut elected = ends.list();
+    let mut moved = vec![[0; MOVED_WORDS]; 2 * elected.len()];
+    let mut listed = run.list();
     let mut answer = [0; 6];
     unsafe {
         library::yubtomiq_evaluate_both_ways(

@@ -29,16 +29,22 @@ static void same_words(const char *what, const void *got, const void *expected, 
     }
 }
 
-enum { RECORDS = 4, WORDS = 9 + 11 * RECORDS, LENT = WORDS + 2 };
+enum { RECORDS = 4, WORDS = YUBTOMIQ_STORE_WORDS(RECORDS), LENT = WORDS + 2, STOP_WORDS = YUBTOMIQ_COLLECTED_WORDS };
+
+#define WORDS_OF(type) (sizeof(type) / sizeof(uint64_t))
 
 static const yubtomiq_price NONE = {0, 0};
 static const yubtomiq_settings PLAIN = {0, 0, 0, 0};
+static const yubtomiq_holder NOBODY = {{0, 0, 0, 0}};
+
+/* Of these the last two differ in one word. */
+static const yubtomiq_holder HOLDERS[3] = {{{1, 2, 3, 4}}, {{5, 6, 7, 8}}, {{5, 6, 7, 9}}};
 
 static yubtomiq_id sequential(uint64_t number) {
     return (yubtomiq_id){YUBTOMIQ_SEQUENTIAL, 0, number};
 }
 
-/* A store of four records and two words behind it, with two sells and a buy: identities 1, 2, 3, quantities 10, 20, 30. */
+/* A store of four records and two words behind it, with two sells and a buy: identities 1, 2, 3, quantities 10, 20, 30, each with its holder. */
 static void lay_out(uint64_t words[LENT]) {
     static const yubtomiq_terms terms[3] = {
         {YUBTOMIQ_SELL, 95, 100, 5}, {YUBTOMIQ_SELL, 90, 100, 10}, {YUBTOMIQ_BUY, 110, 100, 10}};
@@ -49,7 +55,8 @@ static void lay_out(uint64_t words[LENT]) {
         yubtomiq_path path = {0, 0, 0, 0};
         yubtomiq_id id = sequential(i + 1);
         uint64_t sequence = 99;
-        same("admission", yubtomiq_admit_trailing_stop(words, LENT, &path, 0, &NONE, &id, &terms[i], 10 * (i + 1), &sequence), 0);
+        same("admission", yubtomiq_admit_trailing_stop(words, LENT, &path, 0, &NONE, &id, &terms[i], 10 * (i + 1), &HOLDERS[i], &sequence),
+             0);
         same("sequence", sequence, i);
     }
     same("well formed", yubtomiq_well_formed(words, LENT), 1);
@@ -64,8 +71,11 @@ static void refused_values(void) {
     const yubtomiq_terms terms = {YUBTOMIQ_SELL, 90, 100, 10}, no_side = {2, 90, 100, 10};
     const yubtomiq_update change = {4, 0, 0, 0}, side = {YUBTOMIQ_REPLACE, 2, 90, 1};
     yubtomiq_path path = {1, 1, 7, 8}, open = {2, 1, 7, 8}, prev = {1, 2, 7, 8};
-    yubtomiq_stop stop, kept = {1, 2, 3, 4, 5, 6, 7, 8, 9};
-    yubtomiq_found found = {11, {1, 2, 3, 4, 5, 6, 7, 8, 9}};
+    yubtomiq_stop stop, kept = {1, 2, 3, 4, 5, 6, 7, 8, 9, {{10, 11, 12, 13}}};
+    yubtomiq_found found = {11, kept};
+    const yubtomiq_selector selector = {3, {1, 1, 1, 1}}, selected_side = {YUBTOMIQ_BY_SIDE, {2, 0, 0, 0}};
+    yubtomiq_stop list[3] = {kept, kept, kept};
+    uint64_t listed = 99;
     yubtomiq_script_entry entry = {6, 6, 6, 6, 6};
     yubtomiq_pass_counts counts = {5, 5, 5};
     yubtomiq_elected elected[3];
@@ -74,17 +84,22 @@ static void refused_values(void) {
     yubtomiq_price limit = {9, 9};
     yubtomiq_id child = {9, 9, 9};
     stop = kept;
-    same("kind", yubtomiq_admit_trailing_stop(words, LENT, &path, 1, &NONE, &unknown, &terms, 0, &sequence), 255);
-    same("side", yubtomiq_admit_trailing_stop(words, LENT, &path, 1, &NONE, &id, &no_side, 0, &sequence), 255);
-    same("open", yubtomiq_admit_trailing_stop(words, LENT, &open, 1, &NONE, &id, &terms, 0, &sequence), 255);
-    same("prev", yubtomiq_admit_trailing_stop(words, LENT, &prev, 1, &NONE, &id, &terms, 0, &sequence), 255);
-    same("then the store", yubtomiq_admit_trailing_stop(words, 8, &path, 1, &NONE, &id, &terms, 0, &sequence), 1);
-    same("then the kill switch", yubtomiq_admit_trailing_stop(words, LENT, &path, 2, &NONE, &id, &terms, 0, &sequence), 3);
+    same("kind", yubtomiq_admit_trailing_stop(words, LENT, &path, 1, &NONE, &unknown, &terms, 0, &NOBODY, &sequence), 255);
+    same("side", yubtomiq_admit_trailing_stop(words, LENT, &path, 1, &NONE, &id, &no_side, 0, &NOBODY, &sequence), 255);
+    same("open", yubtomiq_admit_trailing_stop(words, LENT, &open, 1, &NONE, &id, &terms, 0, &NOBODY, &sequence), 255);
+    same("prev", yubtomiq_admit_trailing_stop(words, LENT, &prev, 1, &NONE, &id, &terms, 0, &NOBODY, &sequence), 255);
+    same("then the store", yubtomiq_admit_trailing_stop(words, 8, &path, 1, &NONE, &id, &terms, 0, &NOBODY, &sequence), 1);
+    same("then the kill switch", yubtomiq_admit_trailing_stop(words, LENT, &path, 2, &NONE, &id, &terms, 0, &NOBODY, &sequence), 3);
     same("change", yubtomiq_update_pending_stop(words, LENT, &id, &change, &NONE, &stop), 255);
     same("new side", yubtomiq_update_pending_stop(words, LENT, &id, &side, &NONE, &stop), 255);
     same("kind of a change", yubtomiq_update_pending_stop(words, LENT, &unknown, &side, &NONE, &stop), 255);
     same("kind of a cancel", yubtomiq_cancel_pending_stop(words, LENT, &unknown, &stop), 255);
     same("kind of a search", yubtomiq_pending_stop_order(words, LENT, &unknown, &found), 255);
+    same("selector of a collect", yubtomiq_collect(words, LENT, &selector, list, 0, &listed), 255);
+    same("side of a collect", yubtomiq_collect(words, LENT, &selected_side, list, 0, &listed), 255);
+    same("selector of a mass cancel", yubtomiq_mass_cancel(words, LENT, &selector, list, 3, &listed), 255);
+    same("side of a mass cancel", yubtomiq_mass_cancel(words, LENT, &selected_side, list, 3, &listed), 255);
+    same("before the store", yubtomiq_mass_cancel(words, 8, &selector, list, 0, &listed), 255);
     same("path of a clear", yubtomiq_clear(words, LENT, &open), 255);
     same("path of a print", yubtomiq_record_print(&open, 1, &NONE, 1), 255);
     same("path taken", yubtomiq_take_path(&prev, &NONE, &entry), 255);
@@ -100,7 +115,9 @@ static void refused_values(void) {
     same_words("the path stays", &open, &(yubtomiq_path){2, 1, 7, 8}, 4);
     same_words("the other path stays", &prev, &(yubtomiq_path){1, 2, 7, 8}, 4);
     same_words("the known path stays", &path, &(yubtomiq_path){1, 1, 7, 8}, 4);
-    same_words("the stop stays", &stop, &kept, 9);
+    same_words("the stop stays", &stop, &kept, STOP_WORDS);
+    same_words("the list stays", &list[0], &kept, STOP_WORDS);
+    same("the number listed stays", listed, 99);
     same("the sequence stays", sequence, 99);
     same("the found flag stays", found.found, 11);
     same("the entry stays", entry.printed, 6);
@@ -131,8 +148,8 @@ static void lists(void) {
     same("moves", counts.moves, 2);
     same("elected", counts.elected, 1);
     const yubtomiq_elected first = {2, 0, 1, YUBTOMIQ_SELL, 95, 10, 0, 94, 1, 92, elected[0].child_high, elected[0].child_low, 0};
-    same_words("the elected entry", &elected[0], &first, 13);
-    same_words("the next entry stays", &elected[1], &entry, 13);
+    same_words("the elected entry", &elected[0], &first, WORDS_OF(yubtomiq_elected));
+    same_words("the next entry stays", &elected[1], &entry, WORDS_OF(yubtomiq_elected));
     same_words("the first move", &moved[0], &(yubtomiq_moved){2, 0, 3, 104}, 4);
     same_words("the second move", &moved[1], &(yubtomiq_moved){2, 0, 3, 102}, 4);
     same_words("the next move stays", &moved[2], &entry, 4);
@@ -152,20 +169,69 @@ static void answers(void) {
     yubtomiq_id id = sequential(2), none = sequential(9);
     yubtomiq_update update = {YUBTOMIQ_REPLACE, YUBTOMIQ_BUY, 105, 7};
     same("find", yubtomiq_pending_stop_order(words, LENT, &id, &found), 0);
-    same_words("found", &found, &(yubtomiq_found){1, {2, 0, 2, YUBTOMIQ_SELL, 90, 100, 10, 20, 1}}, 10);
+    same_words("found", &found, &(yubtomiq_found){1, {2, 0, 2, YUBTOMIQ_SELL, 90, 100, 10, 20, 1, HOLDERS[1]}}, 1 + STOP_WORDS);
     same("find none", yubtomiq_pending_stop_order(words, LENT, &none, &found), 0);
-    same_words("not found", &found, &(yubtomiq_found){0, {0, 0, 0, 0, 0, 0, 0, 0, 0}}, 10);
+    same_words("not found", &found, &(yubtomiq_found){0, {0, 0, 0, 0, 0, 0, 0, 0, 0, NOBODY}}, 1 + STOP_WORDS);
     same("change", yubtomiq_update_pending_stop(words, LENT, &id, &update, &NONE, &stop), 0);
-    same_words("changed", &stop, &(yubtomiq_stop){2, 0, 2, YUBTOMIQ_BUY, 105, 100, 10, 7, 3}, 9);
+    same_words("changed", &stop, &(yubtomiq_stop){2, 0, 2, YUBTOMIQ_BUY, 105, 100, 10, 7, 3, HOLDERS[1]}, STOP_WORDS);
     same("totals", yubtomiq_pending_stop_quantity(words, LENT, &totals), 0);
     same_words("sums", &totals, &(yubtomiq_totals){0, 10, 0, 37}, 4);
     same("cancel", yubtomiq_cancel_pending_stop(words, LENT, &id, &stop), 0);
-    same_words("cancelled", &stop, &(yubtomiq_stop){2, 0, 2, YUBTOMIQ_BUY, 105, 100, 10, 7, 3}, 9);
+    same_words("cancelled", &stop, &(yubtomiq_stop){2, 0, 2, YUBTOMIQ_BUY, 105, 100, 10, 7, 3, HOLDERS[1]}, STOP_WORDS);
     same("cancel again", yubtomiq_cancel_pending_stop(words, LENT, &id, &stop), 12);
     yubtomiq_path path = {1, 0, 7, 8};
     same("clear", yubtomiq_clear(words, LENT, &path), 0);
     same_words("path", &path, &(yubtomiq_path){0, 0, 7, 8}, 4);
     same("pending", words[1], 0);
+}
+
+/* Collect and mass cancel: by each selector, the lists, and what is left. */
+static void collected(void) {
+    uint64_t words[LENT], before[LENT], listed = 99;
+    lay_out(words);
+    memcpy(before, words, sizeof words);
+    const yubtomiq_stop all[3] = {{2, 0, 1, YUBTOMIQ_SELL, 95, 100, 5, 10, 0, HOLDERS[0]},
+                                  {2, 0, 2, YUBTOMIQ_SELL, 90, 100, 10, 20, 1, HOLDERS[1]},
+                                  {2, 0, 3, YUBTOMIQ_BUY, 110, 100, 10, 30, 2, HOLDERS[2]}};
+    yubtomiq_selector holder = yubtomiq_by_holder(HOLDERS[1]), side = yubtomiq_by_side(YUBTOMIQ_SELL);
+    yubtomiq_selector range = yubtomiq_by_price_range(95, 110), none = yubtomiq_by_price_range(96, 95);
+    yubtomiq_stop list[4], lent;
+    memset(list, 1, sizeof list);
+    lent = list[0];
+    same("words of a selector", WORDS_OF(yubtomiq_selector), YUBTOMIQ_SELECTOR_WORDS);
+    same("words of a stop", WORDS_OF(yubtomiq_stop), YUBTOMIQ_COLLECTED_WORDS);
+    same("collect, short", yubtomiq_collect(words, LENT, &holder, list, 2, &listed), 14);
+    same("mass cancel, short", yubtomiq_mass_cancel(words, LENT, &none, list, 2, &listed), 14);
+    same("collect, no store", yubtomiq_collect(words, 8, &holder, list, 2, &listed), 1);
+    same("the number listed stays", listed, 99);
+    same_words("the list stays", list, &lent, STOP_WORDS);
+    same("by holder", yubtomiq_collect(words, LENT, &holder, list, 3, &listed), 0);
+    same("by holder, how many", listed, 1);
+    same_words("by holder, the stop", list, &all[1], STOP_WORDS);
+    same_words("by holder, the next entry stays", &list[1], &lent, STOP_WORDS);
+    side.words[1] = side.words[3] = 7;
+    same("by side", yubtomiq_collect(words, LENT, &side, list, 4, &listed), 0);
+    same("by side, how many", listed, 2);
+    same_words("by side, the stops", list, all, 2 * STOP_WORDS);
+    same_words("by side, the next entry stays", &list[2], &lent, STOP_WORDS);
+    same("by range", yubtomiq_collect(words, LENT, &range, list, 3, &listed), 0);
+    same("by range, how many", listed, 2);
+    same_words("by range, the first", &list[0], &all[0], STOP_WORDS);
+    same_words("by range, the second", &list[1], &all[2], STOP_WORDS);
+    same("by no range", yubtomiq_mass_cancel(words, LENT, &none, list, 3, &listed), 0);
+    same("by no range, how many", listed, 0);
+    same_words("the store stays", words, before, LENT);
+    memset(list, 1, sizeof list);
+    same("mass cancel", yubtomiq_mass_cancel(words, LENT, &side, list, 4, &listed), 0);
+    same("mass cancel, how many", listed, 2);
+    same_words("mass cancel, the stops", list, all, 2 * STOP_WORDS);
+    same_words("mass cancel, the next entry stays", &list[2], &lent, STOP_WORDS);
+    yubtomiq_stop stop;
+    same("the same by cancels", yubtomiq_cancel_pending_stop(before, LENT, &(yubtomiq_id){2, 0, 1}, &stop), 0);
+    same("one after the other", yubtomiq_cancel_pending_stop(before, LENT, &(yubtomiq_id){2, 0, 2}, &stop), 0);
+    same_words("the store of the cancels", words, before, LENT);
+    same("well formed", yubtomiq_well_formed(words, LENT), 1);
+    same("the free chain begins with the last cancelled", words[8], 2);
 }
 
 static void path_and_run(void) {
@@ -195,6 +261,14 @@ static void path_and_run(void) {
     same("reset", yubtomiq_reset_path(&path), 0);
 }
 
+enum { MOST = YUBTOMIQ_MOST_RECORDS, FULL = YUBTOMIQ_STORE_WORDS(MOST) };
+
+static uint64_t full[FULL], other[FULL + YUBTOMIQ_RECORD_WORDS];
+static yubtomiq_elected elected_list[MOST], other_list[MOST];
+static yubtomiq_moved moved_list[2 * MOST];
+static yubtomiq_stop stop_list[MOST];
+static yubtomiq_script_entry script[MOST];
+
 static void values(void) {
     yubtomiq_terms after;
     yubtomiq_adjustment adjustment;
@@ -214,15 +288,8 @@ static void values(void) {
     same("zero collar on a tick", yubtomiq_check_tick_size(0, 5), 17);
     same("off the tick", yubtomiq_check_tick_size(7, 5), 18);
     same("on the tick", yubtomiq_check_tick_size(10, 5), 0);
-    same("too many records", yubtomiq_layout_store((uint64_t[9]){0}, 9, 701, 0), 2);
+    same("too many records", yubtomiq_layout_store(other, FULL + YUBTOMIQ_RECORD_WORDS, MOST + 1, 0), 2);
 }
-
-enum { MOST = YUBTOMIQ_MOST_RECORDS, FULL = 9 + 11 * MOST };
-
-static uint64_t full[FULL], other[FULL];
-static yubtomiq_elected elected_list[MOST], other_list[MOST];
-static yubtomiq_moved moved_list[2 * MOST];
-static yubtomiq_script_entry script[MOST];
 
 /* A full store: sells one below the other, so that each print elects one. */
 static void fill(uint64_t words[FULL]) {
@@ -232,12 +299,12 @@ static void fill(uint64_t words[FULL]) {
         yubtomiq_id id = sequential(i + 1);
         yubtomiq_terms terms = {YUBTOMIQ_SELL, 10000 - i, 20000, 5};
         uint64_t sequence;
-        if (yubtomiq_admit_trailing_stop(words, FULL, &path, 0, &NONE, &id, &terms, 1, &sequence) != 0)
+        if (yubtomiq_admit_trailing_stop(words, FULL, &path, 0, &NONE, &id, &terms, 1, &HOLDERS[i % 3], &sequence) != 0)
             same("full store", i, MOST);
     }
 }
 
-/* The calls at their worst: searches to the end of a chain of 700, 700 elected at one print, and a pass of 700 segments. */
+/* The calls at their worst, on a full store: searches to the end of a chain, all elected at one print, a pass of as many segments, all collected. */
 static void *worst(void *unused) {
     yubtomiq_path path = {0, 0, 0, 0};
     yubtomiq_id last = sequential(MOST), absent = sequential(MOST + 1);
@@ -249,10 +316,11 @@ static void *worst(void *unused) {
     yubtomiq_found found;
     yubtomiq_stop stop;
     yubtomiq_both_ways both;
-    uint64_t sequence, falling[2] = {10000, 1};
+    yubtomiq_selector selector = yubtomiq_by_price_range(0, UINT64_MAX);
+    uint64_t sequence, listed, falling[2] = {10000, 1};
     (void)unused;
     fill(full);
-    same("admission, full", yubtomiq_admit_trailing_stop(full, FULL, &path, 0, &NONE, &absent, &terms, 1, &sequence), 10);
+    same("admission, full", yubtomiq_admit_trailing_stop(full, FULL, &path, 0, &NONE, &absent, &terms, 1, &NOBODY, &sequence), 10);
     same("search, last", yubtomiq_pending_stop_order(full, FULL, &last, &found), 0);
     same("change, last", yubtomiq_update_pending_stop(full, FULL, &last, &update, &NONE, &stop), 0);
     same("cancel, last", yubtomiq_cancel_pending_stop(full, FULL, &last, &stop), 0);
@@ -276,6 +344,14 @@ static void *worst(void *unused) {
     same("both ways, elected by the ends", both.ends.elected, MOST);
     same("both ways, elected by the run", both.run.elected, MOST);
     same_words("both ways, stores", full, other, FULL);
+    fill(full);
+    same("collect, all", yubtomiq_collect(full, FULL, &selector, stop_list, MOST, &listed), 0);
+    same("collect, how many", listed, MOST);
+    same("collect, the last", stop_list[MOST - 1].low, MOST);
+    same("mass cancel, all", yubtomiq_mass_cancel(full, FULL, &selector, stop_list, MOST, &listed), 0);
+    same("mass cancel, how many", listed, MOST);
+    same("mass cancel, pending", full[1], 0);
+    same("mass cancel, the head of the free chain", full[8], MOST);
     return NULL;
 }
 
@@ -303,6 +379,7 @@ int main(void) {
     stack();
     lists();
     answers();
+    collected();
     path_and_run();
     values();
     printf("test.c: %d checks, %d failed\n", made, failed);

@@ -42,12 +42,17 @@ fn buy(stop: u64, watermark: u64, trail: u64) -> StopTerms {
     terms(Side::Buy, stop, watermark, trail)
 }
 
-/// A store of n records with these stops, sequential identities 1, 2, .. and quantities 10, 20, ..
+/// The holder of the stop with this number: even and odd ones differ in the last word.
+fn holder(number: u64) -> Holder {
+    Holder { words: [7, 8, 9, number % 2] }
+}
+
+/// A store of n records with these stops, sequential identities 1, 2, .., quantities 10, 20, .. and two holders.
 fn store(n: u64, tick: u64, stops: &[StopTerms]) -> Store {
     let mut s = Store::new(n, tick).expect("a layout in range");
     for (i, &t) in stops.iter().enumerate() {
         let i = i as u64 + 1;
-        let admitted = s.admit_trailing_stop(&mut PrintPath::default(), false, None, Id::sequential(i), t, 10 * i);
+        let admitted = s.admit_trailing_stop(&mut PrintPath::default(), false, None, Id::sequential(i), t, 10 * i, holder(i));
         admitted.expect("an admission in order");
     }
     s
@@ -108,9 +113,10 @@ fn refusals(c: &mut Checks) {
     let one = Id::sequential(1);
     let three = Id::sequential(3);
     let ok = sell(90, 100, 10);
-    let mut admit = |s: &mut Store, kill, trade, id, t, q| s.admit_trailing_stop(&mut closed, kill, trade, id, t, q);
+    let mut admit = |s: &mut Store, kill, trade, id, t, q| s.admit_trailing_stop(&mut closed, kill, trade, id, t, q, holder(1));
     c.refused(Store::new(0, 0).map(|_| ()), Refusal::LayoutOutOfRange);
-    c.refused(Store::new(701, 0).map(|_| ()), Refusal::LayoutOutOfRange);
+    c.refused(Store::new(MOST_RECORDS + 1, 0).map(|_| ()), Refusal::LayoutOutOfRange);
+    c.same("the most records", Store::new(MOST_RECORDS, 0).is_ok(), true);
     c.refused(admit(&mut s, true, None, three, ok, 1), Refusal::KillSwitchActive);
     c.refused(admit(&mut s, false, None, three, ok, 0), Refusal::ZeroQuantity);
     c.refused(admit(&mut s, false, None, three, sell(90, 100, 0), 1), Refusal::ZeroTrail);
@@ -141,11 +147,13 @@ fn damaged(c: &mut Checks) {
         let one = Id::sequential(1);
         let no = Refusal::StoreNotWellFormed;
         c.same("damaged", s.is_well_formed(), false);
-        c.refused(s.admit_trailing_stop(&mut path, true, None, one, sell(0, 0, 0), 0), no);
+        c.refused(s.admit_trailing_stop(&mut path, true, None, one, sell(0, 0, 0), 0, holder(1)), no);
         c.refused(s.update_pending_stop(one, Update::Quantity(0), None), no);
         c.refused(s.cancel_pending_stop(one), no);
         c.refused(s.pending_stop_order(one), no);
         c.refused(s.pending_stop_quantity(), no);
+        c.refused(s.collect(Selector::Side(Side::Sell)), no);
+        c.refused(s.mass_cancel(Selector::Side(Side::Sell)), no);
         c.refused(s.clear(&mut path), no);
         c.refused(s.segment(Settings::default(), prints(None, 1, 1)), no);
         c.refused(s.walk(Settings::default(), None, &[]), no);
@@ -159,7 +167,7 @@ fn damaged(c: &mut Checks) {
 fn changes(c: &mut Checks) {
     let mut s = store(4, 0, &[sell(95, 100, 5), buy(105, 100, 5)]);
     let one = Id::sequential(1);
-    let at = |terms, quantity, seq| Stop { id: one, terms, quantity, seq };
+    let at = |terms, quantity, seq| Stop { id: one, terms, quantity, seq, holder: holder(1) };
     c.same("find", s.pending_stop_order(one), Ok(Some(at(sell(95, 100, 5), 10, 0))));
     c.same("find none", s.pending_stop_order(Id::sequential(9)), Ok(None));
     c.same("totals", s.pending_stop_quantity(), Ok(Totals { sell: 10, buy: 20 }));
@@ -179,11 +187,45 @@ fn changes(c: &mut Checks) {
     c.same("path closed", path, PrintPath { open: false, has_prev: true, prev: 7, first: 8 });
 }
 
+fn collects(c: &mut Checks) {
+    let stops = [sell(95, 100, 5), buy(105, 100, 5), sell(94, 100, 5), sell(95, 100, 10), buy(95, 90, 5)];
+    let mut s = store(6, 0, &stops);
+    let numbers = |found: Result<Vec<Stop>, Refusal>| found.map(|stops| stops.iter().map(|s| s.id.low).collect::<Vec<u64>>());
+    let range = |lowest, highest| Selector::StopPrices { lowest, highest };
+    let first = Stop { id: Id::sequential(1), terms: sell(95, 100, 5), quantity: 10, seq: 0, holder: holder(1) };
+    c.same("of a holder", numbers(s.collect(Selector::Holder(holder(1)))), Ok(vec![1, 3, 5]));
+    c.same("of nobody", numbers(s.collect(Selector::Holder(Holder::default()))), Ok(vec![]));
+    c.same("of a side", numbers(s.collect(Selector::Side(Side::Buy))), Ok(vec![2, 5]));
+    c.same("closed at both ends", numbers(s.collect(range(94, 95))), Ok(vec![1, 3, 4, 5]));
+    c.same("one price", numbers(s.collect(range(105, 105))), Ok(vec![2]));
+    c.same("all", numbers(s.collect(range(0, MAX))), Ok(vec![1, 2, 3, 4, 5]));
+    c.same("lowest above highest", numbers(s.collect(range(95, 94))), Ok(vec![]));
+    c.same("the stop as it is", s.collect(range(95, 95)).map(|stops| stops[0]), Ok(first));
+    c.same("a change of price", s.update_pending_stop(Id::sequential(1), Update::Price(94), None).map(|s| s.seq), Ok(5));
+    c.same("by rising sequence", numbers(s.collect(Selector::Holder(holder(1)))), Ok(vec![3, 5, 1]));
+    let mut one_by_one = s.clone();
+    for number in [3, 4, 1] {
+        c.same("a cancel", one_by_one.cancel_pending_stop(Id::sequential(number)).is_ok(), true);
+    }
+    c.same("mass cancel", numbers(s.mass_cancel(Selector::Side(Side::Sell))), Ok(vec![3, 4, 1]));
+    c.same("the store of the cancels", &s, &one_by_one);
+    c.same("the next record", s.words()[8], 1);
+    c.same("left", numbers(s.collect(range(0, MAX))), Ok(vec![2, 5]));
+    c.same("none to cancel", numbers(s.mass_cancel(Selector::Side(Side::Sell))), Ok(vec![]));
+    c.same("everything", numbers(s.mass_cancel(range(0, MAX))), Ok(vec![2, 5]));
+    c.same("empty", numbers(s.mass_cancel(range(0, MAX))), Ok(vec![]));
+    let bytes: [u8; 32] = std::array::from_fn(|i| i as u8);
+    c.same("big-endian", Holder::from_bytes(bytes).words[3], 0x1819_1a1b_1c1d_1e1f);
+    c.same("its bytes", Holder::from_bytes(bytes).to_bytes(), bytes);
+}
+
 // ---------------------------------------------------------------------
 // Evaluation
 
 fn forecast_example(c: &mut Checks) {
-    let words = vec![2, 2, 2, 0, 1, 1, 0, 0, 0, 2, 0, 7, 1, 98, 100, 10, 1, 0, 2, 2, 2, 0, 9, 1, 95, 100, 10, 1, 1, 0, 0];
+    let header = [2, 2, 2, 0, 1, 1, 0, 0, 0];
+    let records = [[2, 0, 7, 1, 98, 100, 10, 1, 0, 2, 2, 0, 0, 0, 0], [2, 0, 9, 1, 95, 100, 10, 1, 1, 0, 0, 0, 0, 0, 0]];
+    let words = [&header[..], records.as_flattened()].concat();
     let mut s = Store::from_words(words.clone());
     c.same("well formed", s.is_well_formed(), true);
     let walk = s.walk(Settings::default(), None, &[100, 97, 94]).expect("a walk");
@@ -311,6 +353,7 @@ fn main() {
     refusals(&mut c);
     damaged(&mut c);
     changes(&mut c);
+    collects(&mut c);
     forecast_example(&mut c);
     order_example(&mut c);
     turning_example(&mut c);
