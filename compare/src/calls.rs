@@ -2,14 +2,25 @@
 
 use crate::words::Words;
 use crate::yubtomiq::{
-    Elected, Id, IdKind, Namespace, PrintPath, Prints, Refusal, Settings, Side, Stop, StopTerms, Store, Update,
-    calculate_trailing_stop_price, check_tick_size, collar, limit_price, stop_trigger_order_id,
+    Elected, HEADER_WORDS, HOLDER_WORDS, Holder, Id, IdKind, MOVED_WORDS, Namespace, PrintPath, Prints, RECORD_WORDS, Refusal, STOP_WORDS,
+    Selector, Settings, Side, Stop, StopTerms, Store, Update, calculate_trailing_stop_price, check_tick_size, collar, limit_price,
+    stop_trigger_order_id,
 };
 use std::num::NonZeroU64;
 
 type Answer = Result<Vec<u64>, String>;
 
 const TOP: u64 = u64::MAX;
+
+/// Where a record has its quantity, which is 0 where it is free, its sequence, its link by stop and its holder.
+const QUANTITY: usize = 7;
+const SEQUENCE: usize = 8;
+const NEXT_BY_STOP: usize = 9;
+const HOLDER: usize = RECORD_WORDS - HOLDER_WORDS;
+
+/// The words of an elected entry of a line, and where its wide limit stands among them.
+const ELECTED_WORDS: usize = 15;
+const LIMIT: usize = 9;
 
 pub fn replay(name: &str, w: &mut Words) -> Answer {
     match name {
@@ -43,6 +54,7 @@ pub fn replay(name: &str, w: &mut Words) -> Answer {
         }
         "record" | "take" | "reset" => of_the_path(name, w),
         "admit" | "update" | "cancel" | "find" | "clear" => of_the_store(name, w),
+        "collect" | "mass_cancel" => collected(name, w),
         "segment" | "pass" | "run" => evaluation(name, w),
         _ => Err(format!("no call {name}")),
     }
@@ -80,7 +92,12 @@ fn stop_words(stop: Stop) -> Vec<u64> {
     let t = stop.terms;
     let mut words = id_words(stop.id);
     words.extend([t.side as u64, t.stop, t.watermark, t.trail, stop.quantity, stop.seq]);
+    words.extend(stop.holder.words);
     words
+}
+
+fn holder(w: &mut Words) -> Result<Holder, String> {
+    Ok(Holder { words: w.take()? })
 }
 
 fn number<T>(answer: Result<T, Refusal>) -> u64 {
@@ -105,15 +122,31 @@ fn with_next(store: Store, next: u64) -> Store {
     Store::from_words(words)
 }
 
+/// An empty store whose free chain takes every second record, and then the others, downwards: so the stops that are admitted along it stand in
+/// another order than that of their sequences.
+fn out_of_order(store: Store) -> Store {
+    let mut words = store.into_words();
+    let n = words[0];
+    let chain: Vec<u64> = (1..=n).step_by(2).chain((1..=n / 2).rev().map(|half| 2 * half)).collect();
+    let mut link = 8;
+    for record in chain {
+        words[link] = record;
+        link = HEADER_WORDS + RECORD_WORDS * (record as usize - 1) + NEXT_BY_STOP;
+    }
+    words[link] = 0;
+    Store::from_words(words)
+}
+
 /// A store with the line's stops, each admitted at its sequence, and room for one more.
 fn book(w: &mut Words) -> Result<Store, String> {
     let [tick, next, count] = w.take()?;
-    let mut store = Store::new(count + 1, tick).map_err(|refusal| format!("layout: {refusal:?}"))?;
+    let mut store = out_of_order(Store::new(count + 1, tick).map_err(|refusal| format!("layout: {refusal:?}"))?);
     for _ in 0..count {
         let (id, terms) = (id(w)?, terms(w)?);
         let [quantity, seq] = w.take()?;
+        let holder = holder(w)?;
         store = with_next(store, seq);
-        let admitted = store.admit_trailing_stop(&mut PrintPath::default(), false, None, id, terms, quantity);
+        let admitted = store.admit_trailing_stop(&mut PrintPath::default(), false, None, id, terms, quantity, holder);
         if admitted != Ok(seq) {
             return Err(format!("a stop of the book is answered {admitted:?}"));
         }
@@ -127,10 +160,10 @@ fn stops(store: &Store) -> Answer {
         return Err("the store is not well formed".to_string());
     }
     let words = store.words();
-    let mut records: Vec<&[u64]> = words[9..].chunks_exact(11).filter(|record| record[7] != 0).collect();
-    records.sort_unstable_by_key(|record| record[8]);
+    let mut records: Vec<&[u64]> = words[HEADER_WORDS..].chunks_exact(RECORD_WORDS).filter(|record| record[QUANTITY] != 0).collect();
+    records.sort_unstable_by_key(|record| record[SEQUENCE]);
     let mut all = vec![words[2], words[1]];
-    all.extend(records.iter().flat_map(|record| &record[..9]));
+    all.extend(records.iter().flat_map(|record| record[..NEXT_BY_STOP].iter().chain(&record[HOLDER..])));
     Ok(all)
 }
 
@@ -156,7 +189,7 @@ fn of_the_path(name: &str, w: &mut Words) -> Answer {
 /// A number and a record, or zeros.
 fn changed(answer: Result<Stop, Refusal>) -> Vec<u64> {
     let mut words = vec![number(answer)];
-    words.extend(answer.map_or(vec![0; 9], stop_words));
+    words.extend(answer.map_or(vec![0; STOP_WORDS], stop_words));
     words
 }
 
@@ -167,7 +200,7 @@ fn of_the_store(name: &str, w: &mut Words) -> Answer {
         "admit" => {
             let mut path = path(w)?;
             let (kill, trade, id, terms) = (w.flag()?, w.maybe()?, id(w)?, terms(w)?);
-            let answer = store.admit_trailing_stop(&mut path, kill, trade, id, terms, w.next()?);
+            let answer = store.admit_trailing_stop(&mut path, kill, trade, id, terms, w.next()?, holder(w)?);
             answers = vec![number(answer), answer.unwrap_or(0)];
             answers.extend(stops(&store)?);
             answers.extend(path_words(path));
@@ -188,7 +221,7 @@ fn of_the_store(name: &str, w: &mut Words) -> Answer {
         "find" => {
             let found = store.pending_stop_order(id(w)?).map_err(|refusal| format!("{refusal:?}"))?;
             answers = vec![u64::from(found.is_some())];
-            answers.extend(found.map_or(vec![0; 9], stop_words));
+            answers.extend(found.map_or(vec![0; STOP_WORDS], stop_words));
             return Ok(answers);
         }
         _ => {
@@ -199,6 +232,37 @@ fn of_the_store(name: &str, w: &mut Words) -> Answer {
             return Ok(answers);
         }
     }
+    answers.extend(stops(&store)?);
+    Ok(answers)
+}
+
+/// A selector; words that it leaves unused are passed over.
+fn selector(w: &mut Words) -> Result<Selector, String> {
+    let [kind, words @ ..]: [u64; 1 + HOLDER_WORDS] = w.take()?;
+    Ok(match kind {
+        0 => Selector::Holder(Holder { words }),
+        1 => Selector::Side(if words[0] == 0 { Side::Buy } else { Side::Sell }),
+        _ => Selector::StopPrices { lowest: words[0], highest: words[1] },
+    })
+}
+
+/// A mass cancel is held to the single cancels as well.
+fn collected(name: &str, w: &mut Words) -> Answer {
+    let refused = |refusal: Refusal| format!("{refusal:?}");
+    let mut store = book(w)?;
+    let selector = selector(w)?;
+    let listed = store.collect(selector).map_err(refused)?;
+    if name == "mass_cancel" {
+        let mut one_by_one = store.clone();
+        for stop in &listed {
+            one_by_one.cancel_pending_stop(stop.id).map_err(refused)?;
+        }
+        if store.mass_cancel(selector).map_err(refused)? != listed || store != one_by_one {
+            return Err("the mass cancel is not the cancels of what is collected".to_string());
+        }
+    }
+    let mut answers = vec![listed.len() as u64];
+    answers.extend(listed.into_iter().flat_map(stop_words));
     answers.extend(stops(&store)?);
     Ok(answers)
 }
@@ -285,12 +349,12 @@ fn walked(store: &Store, settings: Settings, prints: Prints) -> Result<(), Strin
 pub fn adjust(name: &str, found: &mut Vec<u64>, expected: &mut Vec<u64>) -> Result<u64, String> {
     let lists = match name {
         "limit_for" => return Ok(cap(expected, 0)),
-        "segment" => 2 + 4 * *expected.first().ok_or("no moves")? as usize,
+        "segment" => 2 + MOVED_WORDS * *expected.first().ok_or("no moves")? as usize,
         "pass" | "run" => 3,
         _ => return Ok(0),
     };
     let elected = *expected.get(1).ok_or("no count")? as usize;
-    let capped = (0..elected).map(|k| cap(expected, lists + 15 * k + 9)).sum();
+    let capped = (0..elected).map(|k| cap(expected, lists + ELECTED_WORDS * k + LIMIT)).sum();
     if name == "run" {
         let kept = expected.len().checked_sub(5).ok_or("no path")?;
         if expected.remove(kept) == 0 {
