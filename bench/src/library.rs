@@ -1,7 +1,8 @@
 // The compiled library, called by its plain names.
 
+use crate::yubtomiq::{ELECTED_WORDS, HEADER_WORDS, HOLDER_WORDS, RECORD_WORDS, STOP_WORDS};
 use published::Side;
-use published::orderbook::desk::Stop;
+use published::orderbook::desk::{Selector, Stop};
 
 unsafe extern "C" {
     fn yubtomiq_layout_store(store: *mut u64, words: usize, n: u64, tick: u64) -> u64;
@@ -9,24 +10,41 @@ unsafe extern "C" {
     fn yubtomiq_admit_trailing_stop(
         store: *mut u64,
         words: usize,
-        path: *mut [u64; 4],
+        path: &mut [u64; 4],
         kill: u64,
-        trade: *const [u64; 2],
-        id: *const [u64; 3],
-        terms: *const [u64; 4],
+        trade: &[u64; 2],
+        id: &[u64; 3],
+        terms: &[u64; 4],
         quantity: u64,
-        answer: *mut [u64; 1],
+        holder: &[u64; HOLDER_WORDS],
+        answer: &mut [u64; 1],
+    ) -> u64;
+    fn yubtomiq_collect(
+        store: *const u64,
+        words: usize,
+        selector: &[u64; 1 + HOLDER_WORDS],
+        list: *mut [u64; STOP_WORDS],
+        room: usize,
+        answer: &mut [u64; 1],
+    ) -> u64;
+    fn yubtomiq_mass_cancel(
+        store: *mut u64,
+        words: usize,
+        selector: &[u64; 1 + HOLDER_WORDS],
+        list: *mut [u64; STOP_WORDS],
+        room: usize,
+        answer: &mut [u64; 1],
     ) -> u64;
     fn yubtomiq_walk(
         store: *mut u64,
         words: usize,
-        settings: *const [u64; 4],
-        prev: *const [u64; 2],
+        settings: &[u64; 4],
+        prev: &[u64; 2],
         prices: *const u64,
         count: usize,
-        elected: *mut [u64; 13],
+        elected: *mut [u64; ELECTED_WORDS],
         room: usize,
-        answer: *mut [u64; 2],
+        answer: &mut [u64; 2],
     ) -> u64;
 }
 
@@ -36,12 +54,23 @@ const SETTINGS: [u64; 4] = [0, 5, 0, 0];
 #[derive(Clone)]
 pub struct Store {
     pub words: Vec<u64>,
-    elected: Vec<[u64; 13]>,
+    elected: Vec<[u64; ELECTED_WORDS]>,
+    collected: Vec<[u64; STOP_WORDS]>,
+}
+
+/// The words of a selector.
+fn words_of(selector: Selector) -> [u64; 1 + HOLDER_WORDS] {
+    match selector {
+        Selector::Holder([a, b, c, d]) => [0, a, b, c, d],
+        Selector::Side(side) => [1, u64::from(side == Side::Sell), 0, 0, 0],
+        Selector::Range(lowest, highest) => [2, lowest, highest, 0, 0],
+    }
 }
 
 impl Store {
     pub fn with(stops: &[Stop], n: usize) -> Self {
-        let mut store = Self { words: vec![0; 9 + 11 * n], elected: vec![[0; 13]; 700] };
+        let words = vec![0; HEADER_WORDS + RECORD_WORDS * n];
+        let mut store = Self { words, elected: vec![[0; ELECTED_WORDS]; n], collected: vec![[0; STOP_WORDS]; n] };
         let refused = unsafe { yubtomiq_layout_store(store.words.as_mut_ptr(), store.words.len(), n as u64, 0) };
         assert_eq!(refused, 0, "layout");
         for stop in stops {
@@ -54,7 +83,40 @@ impl Store {
         let (mut path, mut answer) = ([0; 4], [0; 1]);
         let terms = [u64::from(stop.side == Side::Sell), stop.stop, stop.watermark, stop.trail];
         let (words, len) = (self.words.as_mut_ptr(), self.words.len());
-        unsafe { yubtomiq_admit_trailing_stop(words, len, &mut path, 0, &[0; 2], &stop.id.words(), &terms, stop.quantity, &mut answer) }
+        unsafe {
+            yubtomiq_admit_trailing_stop(
+                words,
+                len,
+                &mut path,
+                0,
+                &[0; 2],
+                &stop.id.words(),
+                &terms,
+                stop.quantity,
+                &stop.holder,
+                &mut answer,
+            )
+        }
+    }
+
+    /// How many a collect lists.
+    pub fn collect(&mut self, selector: Selector) -> usize {
+        let mut answer = [0; 1];
+        let (words, len) = (self.words.as_ptr(), self.words.len());
+        let (list, room) = (self.collected.as_mut_ptr(), self.collected.len());
+        let refused = unsafe { yubtomiq_collect(words, len, &words_of(selector), list, room, &mut answer) };
+        assert_eq!(refused, 0, "collect");
+        answer[0] as usize
+    }
+
+    /// How many a mass cancel takes out.
+    pub fn mass_cancel(&mut self, selector: Selector) -> usize {
+        let mut answer = [0; 1];
+        let (words, len) = (self.words.as_mut_ptr(), self.words.len());
+        let (list, room) = (self.collected.as_mut_ptr(), self.collected.len());
+        let refused = unsafe { yubtomiq_mass_cancel(words, len, &words_of(selector), list, room, &mut answer) };
+        assert_eq!(refused, 0, "mass cancel");
+        answer[0] as usize
     }
 
     /// How many moved and how many were elected.

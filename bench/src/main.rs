@@ -3,12 +3,20 @@
 mod clock;
 mod library;
 mod stops;
+// For its sizes.
+#[allow(dead_code)]
+#[path = "../../hosts/rust/yubtomiq.rs"]
+mod yubtomiq;
 
 use library::Store;
-use published::orderbook::desk::Desk;
+use published::Side;
+use published::orderbook::desk::{Desk, Selector};
 use std::hint::black_box;
 use std::time::Duration;
 use stops::{Plan, book_of};
+
+/// The records of a store.
+const RECORDS: usize = yubtomiq::MOST_RECORDS as usize;
 
 /// Repetitions of a timing; the middle one counts.
 const TURNS: usize = 9;
@@ -42,7 +50,7 @@ fn run(name: &str, plan: &Plan, target: &str) {
     let rust = median(|| book_of(&plan.stops), |desk| {
         black_box(prints(desk, plan));
     });
-    let store = Store::with(&plan.stops, 700);
+    let store = Store::with(&plan.stops, RECORDS);
     let ours = median(|| store.clone(), |store| {
         black_box(store.walk(None, &plan.prices));
     });
@@ -64,29 +72,53 @@ fn prints(desk: &Desk, plan: &Plan) -> (u64, u64) {
 /// Both give the same numbers, or the timing would compare different work.
 fn agreed(plan: &Plan) -> (u64, u64) {
     let rust = prints(&book_of(&plan.stops), plan);
-    let ours = Store::with(&plan.stops, 700).walk(None, &plan.prices);
+    let ours = Store::with(&plan.stops, RECORDS).walk(None, &plan.prices);
     assert_eq!(rust, ours, "moves and elected");
     rust
 }
 
-/// One admission beside 699 pending stops.
+/// One admission into the last free record.
 fn admission() {
-    let stops = stops::full(700);
-    let (last, others) = (stops[699], &stops[..699]);
+    let stops = stops::full(RECORDS as u64);
+    let (last, others) = (stops[RECORDS - 1], &stops[..RECORDS - 1]);
     let rust = median(|| book_of(others), |desk| {
         black_box(desk.admit(last)).expect("an answer").expect("room for it");
     });
-    let store = Store::with(others, 700);
+    let store = Store::with(others, RECORDS);
     let ours = median(|| store.clone(), |store| {
         assert_eq!(black_box(store.admit(&last)), 0);
     });
     row("one admission, one record free", 1, rust, ours, "");
 }
 
+/// Collect and mass cancel on a full store. Both must find as many.
+fn selected(name: &str, selector: Selector) {
+    let stops = stops::full(RECORDS as u64);
+    let (store, desk) = (Store::with(&stops, RECORDS), book_of(&stops));
+    let found = desk.count_collected(selector);
+    let mut counted = store.clone();
+    assert_eq!(counted.collect(selector), found, "collected");
+    assert_eq!(counted.mass_cancel(selector), found, "cancelled");
+    let rust = median(|| (), |()| {
+        black_box(desk.count_collected(selector));
+    });
+    let ours = median(|| store.clone(), |store| {
+        black_box(store.collect(selector));
+    });
+    row(&format!("collect on a full store, {name}: {found} stops"), 1, rust, ours, "");
+    let rust = median(|| book_of(&stops), |desk| {
+        black_box(desk.count_cancelled(selector));
+    });
+    let ours = median(|| store.clone(), |store| {
+        black_box(store.mass_cancel(selector));
+    });
+    row(&format!("mass cancel on a full store, {name}: {found} stops"), 1, rust, ours, "");
+}
+
 /// The form check of a full store against a plain copy of its words.
 fn form() {
     const TIMES: usize = 100;
-    let store = Store::with(&stops::full(700), 700);
+    let store = Store::with(&stops::full(RECORDS as u64), RECORDS);
     let mut copy = store.clone();
     let copied = median(|| (), |()| {
         for _ in 0..TIMES {
@@ -101,14 +133,14 @@ fn form() {
     });
     let (copied, checked) = (nanoseconds(copied, TIMES), nanoseconds(checked, TIMES));
     println!();
-    println!("| work on a full store of 700 records | ns | copies |");
+    println!("| work on a full store of {RECORDS} records | ns | copies |");
     println!("|---|---|---|");
     println!("| a plain copy of its {} words | {copied:.0} | 1 |", store.words.len());
     println!("| the form check (target: within 10 copies) | {checked:.0} | {:.1} |", checked / copied);
 }
 
 fn main() {
-    println!("| run | prints | Rust, ns a print | Rattle, ns a print | ratio | target |");
+    println!("| run, or call | prints | Rust, ns a print | Rattle, ns a print | ratio | target |");
     println!("|---|---|---|---|---|---|");
     run("rising, 500 sells that all trail", &stops::steady(), "40");
     run("rising through 500 watermarks spread ten apart", &stops::spread(), "40");
@@ -117,5 +149,8 @@ fn main() {
     run("falling, elects 500 one by one", &stops::falling(), "");
     run("one print elects 500", &stops::at_once(), "10");
     admission();
+    selected("one holder of seven", Selector::Holder(stops::holder(3)));
+    selected("one side", Selector::Side(Side::Sell));
+    selected("every price", Selector::Range(0, u64::MAX));
     form();
 }

@@ -1,6 +1,6 @@
 // The books and runs of prices that are timed.
 
-use published::orderbook::desk::{Desk, Settings, Stop};
+use published::orderbook::desk::{Desk, Holder, Settings, Stop};
 use published::{Id, Side, Uuid};
 
 pub struct Plan {
@@ -21,12 +21,17 @@ fn identity(i: u64) -> Id {
     }
 }
 
+/// Seven holders that differ in their last word.
+pub fn holder(i: u64) -> Holder {
+    [u64::MAX, 1, 2, i % 7]
+}
+
 fn stop(i: u64, side: Side, watermark: u64, trail: u64) -> Stop {
     let stop = match side {
         Side::Sell => watermark - trail,
         Side::Buy => watermark + trail,
     };
-    Stop { id: identity(i), side, stop, watermark, trail, quantity: 1 + i % 7, seq: 0 }
+    Stop { id: identity(i), side, stop, watermark, trail, quantity: 1 + i % 7, seq: 0, holder: holder(i) }
 }
 
 /// Every print moves every stop.

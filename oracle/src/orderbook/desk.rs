@@ -298,6 +298,17 @@ impl Desk {
         (pass.trailed, pass.elected)
     }
 
+    /// How many a collect finds. For timing.
+    pub fn count_collected(&self, selector: Selector) -> usize {
+        self.book.pending_stops.collect(|order| selector.keeps(order)).len()
+    }
+
+    /// How many a mass cancel takes out. For timing.
+    pub fn count_cancelled(&self, selector: Selector) -> usize {
+        let ids = self.book.pending_stop_ids(|order| selector.keeps(order));
+        ids.into_iter().filter(|id| self.book.cancel_pending_stop(*id, CancelReason::UserRequested).is_some()).count()
+    }
+
     /// run_stop_triggers over the path and the last trade as they stand, with a script for the children.
     pub fn run(&self, script: &[Printed]) -> Result<Evaluated, String> {
         let (before, next, path, settings) = (self.stops()?, self.next_seq()?, self.path()?, self.settings()?);
