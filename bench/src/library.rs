@@ -1,52 +1,11 @@
 // The compiled library, called by its plain names.
 
-use crate::yubtomiq::{ELECTED_WORDS, HEADER_WORDS, HOLDER_WORDS, RECORD_WORDS, STOP_WORDS};
+use crate::yubtomiq::library::{
+    yubtomiq_admit_trailing_stop, yubtomiq_collect, yubtomiq_layout_store, yubtomiq_mass_cancel, yubtomiq_walk, yubtomiq_well_formed,
+};
+use crate::yubtomiq::{ELECTED_WORDS, ElectedWords, HEADER_WORDS, RECORD_WORDS, STOP_WORDS, SelectorWords, StopWords};
 use published::Side;
 use published::orderbook::desk::{Selector, Stop};
-
-unsafe extern "C" {
-    fn yubtomiq_layout_store(store: *mut u64, words: usize, n: u64, tick: u64) -> u64;
-    fn yubtomiq_well_formed(store: *const u64, words: usize) -> u64;
-    fn yubtomiq_admit_trailing_stop(
-        store: *mut u64,
-        words: usize,
-        path: &mut [u64; 4],
-        kill: u64,
-        trade: &[u64; 2],
-        id: &[u64; 3],
-        terms: &[u64; 4],
-        quantity: u64,
-        holder: &[u64; HOLDER_WORDS],
-        answer: &mut [u64; 1],
-    ) -> u64;
-    fn yubtomiq_collect(
-        store: *const u64,
-        words: usize,
-        selector: &[u64; 1 + HOLDER_WORDS],
-        list: *mut [u64; STOP_WORDS],
-        room: usize,
-        answer: &mut [u64; 1],
-    ) -> u64;
-    fn yubtomiq_mass_cancel(
-        store: *mut u64,
-        words: usize,
-        selector: &[u64; 1 + HOLDER_WORDS],
-        list: *mut [u64; STOP_WORDS],
-        room: usize,
-        answer: &mut [u64; 1],
-    ) -> u64;
-    fn yubtomiq_walk(
-        store: *mut u64,
-        words: usize,
-        settings: &[u64; 4],
-        prev: &[u64; 2],
-        prices: *const u64,
-        count: usize,
-        elected: *mut [u64; ELECTED_WORDS],
-        room: usize,
-        answer: &mut [u64; 2],
-    ) -> u64;
-}
 
 /// Kill switch off, collar 5, namespace zero.
 const SETTINGS: [u64; 4] = [0, 5, 0, 0];
@@ -54,12 +13,12 @@ const SETTINGS: [u64; 4] = [0, 5, 0, 0];
 #[derive(Clone)]
 pub struct Store {
     pub words: Vec<u64>,
-    elected: Vec<[u64; ELECTED_WORDS]>,
-    collected: Vec<[u64; STOP_WORDS]>,
+    elected: Vec<ElectedWords>,
+    collected: Vec<StopWords>,
 }
 
 /// The words of a selector.
-fn words_of(selector: Selector) -> [u64; 1 + HOLDER_WORDS] {
+fn words_of(selector: Selector) -> SelectorWords {
     match selector {
         Selector::Holder([a, b, c, d]) => [0, a, b, c, d],
         Selector::Side(side) => [1, u64::from(side == Side::Sell), 0, 0, 0],

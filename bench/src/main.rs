@@ -3,7 +3,7 @@
 mod clock;
 mod library;
 mod stops;
-// For its sizes.
+// For its calls and sizes.
 #[allow(dead_code)]
 #[path = "../../hosts/rust/yubtomiq.rs"]
 mod yubtomiq;

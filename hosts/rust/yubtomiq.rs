@@ -21,15 +21,16 @@ pub const ELECTED_WORDS: usize = 13;
 pub const MOVED_WORDS: usize = 4;
 
 /// What a call reads or writes, as words.
-type HolderWords = [u64; HOLDER_WORDS];
-type SelectorWords = [u64; 1 + HOLDER_WORDS];
-type StopWords = [u64; STOP_WORDS];
-type FoundWords = [u64; 1 + STOP_WORDS];
-type ElectedWords = [u64; ELECTED_WORDS];
-type MovedWords = [u64; MOVED_WORDS];
+pub type HolderWords = [u64; HOLDER_WORDS];
+pub type SelectorWords = [u64; 1 + HOLDER_WORDS];
+pub type StopWords = [u64; STOP_WORDS];
+pub type FoundWords = [u64; 1 + STOP_WORDS];
+pub type ElectedWords = [u64; ELECTED_WORDS];
+pub type MovedWords = [u64; MOVED_WORDS];
 
-/// The calls as the library has them. A slice is passed as a pointer and a count of elements.
-mod library {
+/// The calls as the library has them, for a host that keeps buffers of its own. A slice is passed as a pointer and a count of elements;
+/// the header says what each call asks of its caller.
+pub mod library {
     use super::{ElectedWords, FoundWords, HolderWords, MovedWords, SelectorWords, StopWords};
 
     unsafe extern "C" {
