@@ -2,11 +2,14 @@
 // prints the path, what the segment answers, and the entries of both lists: those written, and later ones, which stay.
 use book::Elected;
 use book::EvaluationAnswer;
+use book::HEADER_WORDS;
 use book::LastPrice;
 use book::Moved;
 use book::PrintPath;
 use book::PrintSegment;
+use book::RECORD_WORDS;
 use book::Settings;
+use pricelevel::Holder;
 use pricelevel::Id;
 use pricelevel::IdKind;
 use pricelevel::Price;
@@ -144,13 +147,14 @@ fn begin(s: &mut [u64]) -> PrintPath {
         id(7),
         terms(),
         Quantity(2),
+        Holder(1, 2, 3, 4),
     );
     admitted.path
 }
 
 // A sweep from 102 down to 96: its first print is recorded on the path, and it ratchets the stop to 97 and elects it.
 fn main() {
-    let mut s = [0u64; 64];
+    let mut s = [0u64; HEADER_WORDS + RECORD_WORDS * 4];
     let before = begin(&mut s);
     let path = recorded_once(before, 1, LastPrice::None, Price(102));
     let first = path.first;
