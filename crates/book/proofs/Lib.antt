@@ -5,6 +5,7 @@ pub mod Answers
 pub mod BySequence
 pub mod ChainIndices
 pub mod Chains
+pub mod CollectExamples
 pub mod Collected
 pub mod ChangedBook
 pub mod PointCounts
