@@ -12,7 +12,8 @@ use Rattle.pricelevel.specs.declared.Side.the-variants.{Buy, Sell}
 use Rattle.stop_terms.specs.Terms.{behind, beyond, inconsistencyOf, inconsistencyNumber}
 use Rattle.book.specs.Book.{before, lexicographic, withIndex, gather, ofSide, pendingOn, chain, entries, indices, pendingCount}
 use Rattle.book.specs.Calls.{pendingIn}
-use Rattle.book.specs.Collect.{pendingStop, admittedEarlier, bySequence, selects, selected, collectedWords, collectQuestions, CollectOutcome, collect, vacatedEach, massCancel}
+use Rattle.book.specs.Collect.{pendingStop, admittedEarlier, bySequence, selects, selected, collectQuestions, CollectOutcome, collect, vacatedEach, massCancel}
+use Rattle.book.specs.Entries.{stopWords}
 use Rattle.book.specs.Lists.{headOr0, isNone, every, filter, sameList, insertBy, sortBy}
 use Rattle.book.specs.Store.{stored, storedBook, vacated}
 use Rattle.book.specs.Words.{nextIn, chainIndices, header, recordWords, recordsWords, layout, cell, recordWord, kindOf, sideFrom, entryAt, slotAt, slotsAt, freeFrom, bookOf, consistent, soundStop, differs, allDiffer, vacantIndices, valid, areWords, wellFormed, dataWords, afterByStop, afterByWatermark, withLinks}
@@ -46,7 +47,7 @@ told (refused k) = 0 ∷ k ∷ []
 told (accepted n) = 1 ∷ n ∷ []
 
 lines : CollectOutcome → List (List ℕ)
-lines o = told (o .answer) ∷ map collectedWords (o .listed)
+lines o = told (o .answer) ∷ map stopWords (o .listed)
 
 found : List (List (List ℕ))
 found =
@@ -81,5 +82,5 @@ expected =
     ∷ []
 
 examples : found ≡ expected
-unfolding store earlier later left inRange told lines found expected before lexicographic withIndex gather insertBy sortBy filter ofSide pendingOn chain entries indices pendingCount headOr0 isNone every sameList nextIn chainIndices header recordWords dataWords afterByStop afterByWatermark withLinks recordsWords layout cell recordWord kindOf sideFrom entryAt slotAt slotsAt freeFrom bookOf consistent soundStop differs allDiffer vacantIndices valid areWords wellFormed sameId sameHolder onTick behind beyond inconsistencyOf inconsistencyNumber pendingIn pendingStop admittedEarlier bySequence selects selected collectedWords collectQuestions collect vacatedEach massCancel firstNo decide stored storedBook vacated
+unfolding store earlier later left inRange told lines found expected before lexicographic withIndex gather insertBy sortBy filter ofSide pendingOn chain entries indices pendingCount headOr0 isNone every sameList nextIn chainIndices header recordWords dataWords afterByStop afterByWatermark withLinks recordsWords layout cell recordWord kindOf sideFrom entryAt slotAt slotsAt freeFrom bookOf consistent soundStop differs allDiffer vacantIndices valid areWords wellFormed sameId sameHolder onTick behind beyond inconsistencyOf inconsistencyNumber pendingIn pendingStop admittedEarlier bySequence selects selected stopWords collectQuestions collect vacatedEach massCancel firstNo decide stored storedBook vacated
 examples = refl

@@ -14,7 +14,7 @@ use Rattle.book.specs.Book.{Slot, vacant, held, Book, Pending, gather, e
 use Rattle.book.specs.Calls.{pendingIn}
 use Rattle.book.specs.Lists.{sortBy, filter}
 use Rattle.book.specs.Store.{storedBook, vacated, cancel}
-use Rattle.book.specs.Words.{dataWords, bookOf, wellFormed}
+use Rattle.book.specs.Words.{bookOf, wellFormed}
 use Rattle.book.specs.declared.Selector.{Selector}
 use Rattle.book.specs.declared.Selector.the-variants.{ByHolder, BySide, ByPriceRange}
 use Rattle.book.specs.declared.StopEntry.{StopEntry}
@@ -45,10 +45,6 @@ selects (ByPriceRange lowest highest) t = leb (lowest .0) (stopOf t) && leb (sto
 -- by rising sequence
 unfoldable pub selected : Selector → List Slot → List Pending
 selected selector ss = filter (λ p. selects selector (p .entry)) (bySequence ss)
-
--- an entry of a list: the record without its next indices
-unfoldable pub collectedWords : StopEntry → List ℕ
-collectedWords t = dataWords (held t)
 
 -- the list at least count entries? 14
 unfoldable pub collectQuestions : List ℕ → ℕ → List Question

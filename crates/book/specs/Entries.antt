@@ -1,4 +1,4 @@
--- The words of the entries of a lent list: document 01, One point, one segment, one pass.
+-- The words of the entries of a lent list: document 01, One point, one segment, one pass; document 02, One.
 use Prim.Native.Nat.{ℕ}
 use mathlib.Core.Bool.{cond}
 use mathlib.Core.List.{List, [], _∷_}
@@ -6,8 +6,16 @@ use Rattle.pricelevel.specs.Identity.{kindNumber}
 use Rattle.pricelevel.specs.Side.{sideNumber}
 use Rattle.stop_protection.specs.declared.Limit.{Limit}
 use Rattle.stop_protection.specs.declared.Limit.the-variants as limit
+use Rattle.book.specs.Book.{held}
+use Rattle.book.specs.Words.{dataWords}
 use Rattle.book.specs.declared.Elected.{Elected}
 use Rattle.book.specs.declared.Moved.{Moved}
+use Rattle.book.specs.declared.StopEntry.{StopEntry}
+
+-- of a collected stop: the record without its next indices, which is kind, identity high, identity low, side, stop,
+-- watermark, trail, quantity, sequence, and the holder's four
+unfoldable pub stopWords : StopEntry → List ℕ
+stopWords t = dataWords (held t)
 
 -- kind, identity high, identity low, stop
 unfoldable pub movedWords : Moved → List ℕ

@@ -38,14 +38,12 @@ pub const MOVED_WORDS: usize = 4;
 
 pub const MOST_MOVES: usize = 2 * MOST_RECORDS;
 
-// A list of collected stops has a record's data words.
-pub const COLLECTED_WORDS: usize = DATA_WORDS;
-
-pub type CollectedWords = [u64; COLLECTED_WORDS];
-
 pub type ElectedWords = [u64; ELECTED_WORDS];
 
 pub type MovedWords = [u64; MOVED_WORDS];
+
+// The words of a stop where it is answered or listed: its record's without the links.
+pub type StopWords = [u64; DATA_WORDS];
 
 // A pending stop: its identity, its terms as they stand, its quantity, its admission sequence and its holder.
 pub struct StopEntry {

@@ -11,7 +11,8 @@ use Rattle.error.specs.Questions.{firstNo, decide}
 use Rattle.book.proofs.Questions.{firstNo-none}
 use Rattle.book.specs.Book.{Pending, entries, indices, pendingCount}
 use Rattle.book.specs.Calls.{written, pendingIn}
-use Rattle.book.specs.Collect.{selected, collectedWords, collectQuestions, CollectOutcome}
+use Rattle.book.specs.Entries.{stopWords}
+use Rattle.book.specs.Collect.{selected, collectQuestions, CollectOutcome}
 use Rattle.book.specs.Words.{bookOf, wellFormed}
 use Rattle.book.specs.declared.Selector.{Selector}
 use Rattle.by_sequence.specs.Begins.{Begins}
@@ -41,15 +42,15 @@ module _ (selector : Selector) (w words : List ℕ) (list : List (List ℕ)) whe
   called = outcome selector w (length list) words
 
   pub called-refused : (k : ℕ) → some k ≡ firstNo (collectQuestions w (length list))
-      → (refused k ≡ called .answer) × (w ≡ called .words) × (list ≡ written (map collectedWords (called .listed)) list)
+      → (refused k ≡ called .answer) × (w ≡ called .words) × (list ≡ written (map stopWords (called .listed)) list)
   unfolding decide written
   called-refused k h = rw (← h) (refl, refl, refl)
 
   pub called-done : (m : ℕ) (o : List ℕ) (after : List (List ℕ)) → none ≡ firstNo (collectQuestions w (length list))
       → Begins o m (indices (selected selector (bookOf w .slots)))
-      → after ≡ written (map collectedWords (entries (selected selector (bookOf w .slots)))) list
+      → after ≡ written (map stopWords (entries (selected selector (bookOf w .slots)))) list
       → (accepted m ≡ called .answer) × (words ≡ called .words)
-      × (after ≡ written (map collectedWords (called .listed)) list)
+      × (after ≡ written (map stopWords (called .listed)) list)
   unfolding decide indices
   called-done m o after h g e =
       let l = selected selector (bookOf w .slots) in

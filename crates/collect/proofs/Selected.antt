@@ -9,7 +9,8 @@ use Rattle.book.proofs.Filter.{filter-all, filter-map}
 use Rattle.book.proofs.Lists.{all-map}
 use Rattle.book.proofs.Lookup.{InBook}
 use Rattle.book.specs.Book.{Slot, Pending, entries, indices, pendingCount}
-use Rattle.book.specs.Collect.{bySequence, selects, selected, collectedWords}
+use Rattle.book.specs.Entries.{stopWords}
+use Rattle.book.specs.Collect.{bySequence, selects, selected}
 use Rattle.book.specs.Lists.{All}
 use Rattle.book.specs.Words.{entryAt, slotsAt}
 use Rattle.book.specs.declared.Selector.{Selector}
@@ -38,7 +39,7 @@ module _ (w : List ℕ) (n : ℕ) (selector : Selector) where
 
   -- and their entries
   pub selected-words : (l : List Pending) → All (InBook slots) l
-      → map (entryWordsIn w) (indices l) ≡ map collectedWords (entries l)
+      → map (entryWordsIn w) (indices l) ≡ map stopWords (entries l)
   unfolding entryWordsIn indices entries
   selected-words [] h = refl
   selected-words (p ∷ l) h = rw (entry-there w n p (h .0), selected-words l (h .1))

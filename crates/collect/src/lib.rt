@@ -1,9 +1,9 @@
 // Collecting pending stops by a selector, from orderbook-rs's cancels of many orders: the questions in their order, then
 // the list by rising sequence. The store is only read.
 use book::CollectAnswer;
-use book::CollectedWords;
 use book::MOST_RECORDS;
 use book::Selector;
+use book::StopWords;
 use by_sequence::by_sequence;
 use error::Refusal;
 use error::Verdict;
@@ -17,7 +17,8 @@ ghost use lib.ListN.{length};
 ghost use Rattle.book.specs.Answers.{toldCollect};
 ghost use Rattle.book.specs.Book.{entries, indices, pendingCount};
 ghost use Rattle.book.specs.Calls.{written};
-ghost use Rattle.book.specs.Collect.{selected, collectedWords, collectQuestions, collect};
+ghost use Rattle.book.specs.Entries.{stopWords};
+ghost use Rattle.book.specs.Collect.{selected, collectQuestions, collect};
 ghost use Rattle.book.specs.Words.{slotsAt};
 ghost use Rattle.by_sequence.specs.Begins.{Begins};
 ghost use Rattle.chains.specs.Records.{Room};
@@ -42,12 +43,12 @@ pub fn list_selected(
     n: u64,
     selector: Selector,
     order: &mut [u64],
-    list: &mut [CollectedWords],
+    list: &mut [StopWords],
 ) -> usize
     requires { ⌜ Room n (now s) × (n ≤ length (now order)) × (pendingCount (slotsAt (now s) 1 n) ≤ length (now list)) ⌝ }
     ensures { λ m. ⌜ (let l = selected selector (slotsAt (now (s .entry)) 1 n) in
         Begins (now (order .exit)) m (indices l)
-        × (now (list .exit) ≡ written (map collectedWords (entries l)) (now (list .entry)))) ⌝ }
+        × (now (list .exit) ≡ written (map stopWords (entries l)) (now (list .entry)))) ⌝ }
 {
     let k = by_sequence(s, n, order);
     let m = keep_selected(s, n, selector, order, k);
@@ -57,10 +58,10 @@ pub fn list_selected(
 
 // Lists the pending stops that a selector takes, by rising sequence, from the start of the list; later entries stay.
 // Refused: the store is not well formed (1); the list is shorter than the pending count (14).
-pub fn collect(s: &[u64], selector: Selector, list: &mut [CollectedWords]) -> CollectAnswer
+pub fn collect(s: &[u64], selector: Selector, list: &mut [StopWords]) -> CollectAnswer
     ensures { λ r. ⌜ (let o = collect selector (now (s .entry)) (length (now (list .entry))) in
         (toldCollect r ≡ o .answer)
-        × (now (list .exit) ≡ written (map collectedWords (o .listed)) (now (list .entry)))) ⌝ }
+        × (now (list .exit) ≡ written (map stopWords (o .listed)) (now (list .entry)))) ⌝ }
 {
     let verdict = ask_collect(s, list.len());
     match verdict {

@@ -1,6 +1,6 @@
 // Change, cancel and search for hosts: every argument as words. `yubtomiq` says what each call does.
+use book::StopWords;
 use host_words::FoundWords;
-use host_words::StopWords;
 use host_words::UNKNOWN;
 use path_words::last_price_of;
 use stop_words::of_find;
@@ -10,7 +10,8 @@ use stop_words::update_of;
 use term_words::id_known;
 use term_words::id_of;
 ghost use mathlib.Core.Path.{_≡_};
-ghost use Rattle.host_words.specs.Answers.{Told, stopWords, foundWords};
+ghost use Rattle.book.specs.Entries.{stopWords};
+ghost use Rattle.host_words.specs.Answers.{Told, foundWords};
 ghost use Rattle.host_words.specs.ByWords.{cancelByWords, updateByWords, findByWords};
 
 pub fn update_pending_stop(

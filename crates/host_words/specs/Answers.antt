@@ -14,9 +14,8 @@ use Rattle.repricing.specs.declared.Adjustment.{Adjustment}
 use Rattle.stop_protection.specs.declared.Limit.{Limit}
 use Rattle.stop_protection.specs.declared.Limit.the-variants as limit
 use Rattle.stop_terms.specs.declared.StopTerms.{StopTerms}
-use Rattle.book.specs.Book.{held}
 use Rattle.book.specs.Sizes.{dataLength}
-use Rattle.book.specs.Words.{dataWords}
+use Rattle.book.specs.Entries.{stopWords}
 use Rattle.book.specs.declared.Counts.{Counts}
 use Rattle.book.specs.declared.PassCounts.{PassCounts}
 use Rattle.book.specs.declared.Totals.{Totals}
@@ -59,10 +58,6 @@ idWords id = kindNumber (id .kind) ∷ id .high ∷ id .low ∷ []
 -- side, stop, watermark, trail
 abbrev pub termsWords : StopTerms → List ℕ
 termsWords t = sideNumber (t .side) ∷ t .stop .0 ∷ t .watermark .0 ∷ t .trail ∷ []
-
--- kind, high, low, side, stop, watermark, trail, quantity, sequence, holder: the stored record without its next indices
-abbrev pub stopWords : StopEntry → List ℕ
-stopWords t = dataWords (held t)
 
 -- open, prev present, prev, first
 abbrev pub pathWords : PrintPath → List ℕ

@@ -1,9 +1,9 @@
 // The cancel of all pending stops that a selector takes, from orderbook-rs's mass cancels: collect, and then a cancel of
 // each in the order of the list, so that the free chain begins with the record of the last. It touches no print path.
 use book::CollectAnswer;
-use book::CollectedWords;
 use book::MOST_RECORDS;
 use book::Selector;
+use book::StopWords;
 use collect::ask_collect;
 use collect::list_selected;
 use error::Verdict;
@@ -16,7 +16,8 @@ ghost use lib.ListN.{length};
 ghost use Rattle.book.specs.Answers.{toldCollect};
 ghost use Rattle.book.specs.Book.{Book, indices};
 ghost use Rattle.book.specs.Calls.{written};
-ghost use Rattle.book.specs.Collect.{selected, collectedWords, vacatedEach, massCancel};
+ghost use Rattle.book.specs.Entries.{stopWords};
+ghost use Rattle.book.specs.Collect.{selected, vacatedEach, massCancel};
 ghost use Rattle.book.specs.declared.Selector.{Selector};
 ghost use Rattle.by_sequence.specs.Begins.{Begins};
 ghost use Rattle.pending_stops.specs.Stored.{Stored};
@@ -43,11 +44,11 @@ fn cancel_each(s: &mut [u64], n: u64, order: &[u64], m: usize)
 // Lists the pending stops that a selector takes, by rising sequence, from the start of the list, and takes them out of
 // the store in that order; later entries stay. Refused: the store is not well formed (1); the list is shorter than the
 // pending count (14).
-pub fn mass_cancel(s: &mut [u64], selector: Selector, list: &mut [CollectedWords]) -> CollectAnswer
+pub fn mass_cancel(s: &mut [u64], selector: Selector, list: &mut [StopWords]) -> CollectAnswer
     ensures { λ r. ⌜ (let o = massCancel selector (now (s .entry)) (length (now (list .entry))) in
         (toldCollect r ≡ o .answer)
         × (now (s .exit) ≡ o .words)
-        × (now (list .exit) ≡ written (map collectedWords (o .listed)) (now (list .entry)))) ⌝ }
+        × (now (list .exit) ≡ written (map stopWords (o .listed)) (now (list .entry)))) ⌝ }
 {
     let verdict = ask_collect(&s[..], list.len());
     match verdict {

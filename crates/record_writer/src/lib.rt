@@ -1,11 +1,13 @@
-// A record written whole: a stop's words with its links, or a free record's.
+// The words of a stop, and a record written whole: a stop's words with its links, or a free record's.
 use book::RECORD_WORDS;
 use book::StopEntry;
+use book::StopWords;
 use records::write_record;
 ghost use mathlib.Core.Path.{_≡_};
 ghost use Prim.Native.Nat.{_-_};
 ghost use lib.Seq.{sets};
 ghost use Rattle.book.specs.Book.{vacant, held};
+ghost use Rattle.book.specs.Entries.{stopWords};
 ghost use Rattle.book.specs.Words.{cell, dataWords, withLinks};
 ghost use Rattle.chains.specs.Records.{Record};
 
@@ -16,9 +18,9 @@ fn free_words(next: u64) -> [u64; RECORD_WORDS]
     [0, 0, 0, 0, 0, 0, 0, 0, 0, next, 0, 0, 0, 0, 0]
 }
 
-// The words of a record that holds a stop and is linked to none.
-fn entry_words(t: StopEntry) -> [u64; RECORD_WORDS]
-    ensures { λ r. ⌜ r ≡ withLinks (dataWords (held t)) 0 0 ⌝ }
+// The words of a stop where it is answered or listed.
+pub fn stop_words(t: StopEntry) -> StopWords
+    ensures { λ r. ⌜ r ≡ stopWords t ⌝ }
 {
     let id = t.id;
     let kind = id.kind;
@@ -35,12 +37,34 @@ fn entry_words(t: StopEntry) -> [u64; RECORD_WORDS]
         terms.trail,
         t.quantity.0,
         t.seq.0,
-        0,
-        0,
         holder.0,
         holder.1,
         holder.2,
         holder.3,
+    ]
+}
+
+// The words of a record that holds a stop and is linked to none.
+fn entry_words(t: StopEntry) -> [u64; RECORD_WORDS]
+    ensures { λ r. ⌜ r ≡ withLinks (dataWords (held t)) 0 0 ⌝ }
+{
+    let w = stop_words(t);
+    [
+        w[0],
+        w[1],
+        w[2],
+        w[3],
+        w[4],
+        w[5],
+        w[6],
+        w[7],
+        w[8],
+        0,
+        0,
+        w[9],
+        w[10],
+        w[11],
+        w[12],
     ]
 }
 

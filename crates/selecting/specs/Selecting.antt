@@ -1,7 +1,8 @@
 -- What a selector takes from a list of records, and their entries, as the words of a store give them.
 use Prim.Native.Nat.{ℕ}
 use mathlib.Core.List.{List}
-use Rattle.book.specs.Collect.{selects, collectedWords}
+use Rattle.book.specs.Entries.{stopWords}
+use Rattle.book.specs.Collect.{selects}
 use Rattle.book.specs.Lists.{filter}
 use Rattle.book.specs.Words.{entryAt}
 use Rattle.book.specs.declared.Selector.{Selector}
@@ -10,4 +11,4 @@ unfoldable pub selectedIn : List ℕ → Selector → List ℕ → List ℕ
 selectedIn w selector l = filter (λ i. selects selector (entryAt w i)) l
 
 unfoldable pub entryWordsIn : List ℕ → ℕ → List ℕ
-entryWordsIn w i = collectedWords (entryAt w i)
+entryWordsIn w i = stopWords (entryAt w i)

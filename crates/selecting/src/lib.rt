@@ -2,16 +2,17 @@
 // only read.
 //
 //     entry: kind high low side stop watermark trail quantity seq | the holder's four words
-use book::CollectedWords;
 use book::Selector;
 use book::StopEntry;
+use book::StopWords;
+use record_writer::stop_words;
 use stored_stops::entry_at;
 ghost use mathlib.Core.List.{map};
 ghost use mathlib.Core.Path.{_≡_};
 ghost use Prim.Native.Nat.{_≤_};
 ghost use lib.ListN.{length, take};
 ghost use Rattle.book.specs.Calls.{written};
-ghost use Rattle.book.specs.Collect.{selects, collectedWords};
+ghost use Rattle.book.specs.Collect.{selects};
 ghost use Rattle.by_sequence.specs.Begins.{Begins};
 ghost use Rattle.merging.specs.Named.{Named};
 ghost use Rattle.selecting.specs.Selecting.{selectedIn, entryWordsIn};
@@ -57,34 +58,8 @@ pub fn keep_selected(s: &[u64], n: u64, selector: Selector, order: &mut [u64], k
     m
 }
 
-// The words of a stop's entry.
-fn collected_words(t: StopEntry) -> CollectedWords
-    ensures { λ r. ⌜ r ≡ collectedWords t ⌝ }
-{
-    let id = t.id;
-    let kind = id.kind;
-    let terms = t.terms;
-    let side = terms.side;
-    let holder = t.holder;
-    [
-        kind.number() as u64,
-        id.high,
-        id.low,
-        side.number() as u64,
-        terms.stop.0,
-        terms.watermark.0,
-        terms.trail,
-        t.quantity.0,
-        t.seq.0,
-        holder.0,
-        holder.1,
-        holder.2,
-        holder.3,
-    ]
-}
-
 // Writes the entries of the first m records of order from the start of the list; later entries stay.
-pub fn list_records(s: &[u64], n: u64, order: &[u64], m: usize, list: &mut [CollectedWords])
+pub fn list_records(s: &[u64], n: u64, order: &[u64], m: usize, list: &mut [StopWords])
     requires { ⌜ Named n (now s) (take m (now order)) × (m ≤ length (now order)) × (m ≤ length (now list)) ⌝ }
     ensures { λ _. ⌜ now (list .exit) ≡ written (map (entryWordsIn (now (s .entry))) (take m (now (order .entry)))) (now (list .entry)) ⌝ }
 {
@@ -92,7 +67,7 @@ pub fn list_records(s: &[u64], n: u64, order: &[u64], m: usize, list: &mut [Coll
     while i < m {
         let x = order[i];
         let t = entry_at(s, n, x);
-        list[i] = collected_words(t);
+        list[i] = stop_words(t);
         i += 1;
     }
 }

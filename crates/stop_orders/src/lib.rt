@@ -6,6 +6,7 @@
 
 // The values that calls take and answer
 pub use book::AdmissionAnswer;
+pub use book::CollectAnswer;
 pub use book::Counts;
 pub use book::Elected;
 pub use book::EvaluationAnswer;
@@ -19,12 +20,15 @@ pub use book::PassCounts;
 pub use book::PrintPath;
 pub use book::PrintSegment;
 pub use book::QuantityAnswer;
+pub use book::Selector;
 pub use book::Settings;
 pub use book::StopAnswer;
 pub use book::StopEntry;
+pub use book::StopWords;
 pub use book::Totals;
 pub use book::TwoWords;
 pub use error::Refusal;
+pub use pricelevel::Holder;
 pub use pricelevel::Id;
 pub use pricelevel::IdKind;
 pub use pricelevel::Price;
@@ -62,6 +66,13 @@ pub use store_calls::cancel_pending_stop;
 // The pending stop of an identity, if there is one. The store is only read. Refused: it is not well formed (1).
 pub use store_calls::pending_stop_order;
 
+// Lists the pending stops that a selector takes, by rising sequence; the store is only read. Refused: it is not well
+// formed (1); the list is shorter than the pending count (14).
+pub use collect::collect;
+
+// Lists the same and then takes the listed stops out, in that order. Refused as collect is.
+pub use mass_cancel::mass_cancel;
+
 // The pending quantity of each side. The store is only read. Refused: it is not well formed (1).
 pub use store_calls::pending_stop_quantity;
 
@@ -86,7 +97,7 @@ pub use lent_path::reset_path;
 // ---------------------------------------------------------------------
 // The store and the lent path
 
-// Admits a stop. Refused: the store is not well formed (1); the kill switch is on (3); quantity (4) or trail (5) zero;
+// Admits a stop for its holder. Refused: the store is not well formed (1); the kill switch is on (3); quantity (4) or trail (5) zero;
 // the stop beyond its watermark (6) or elected by the last trade (7); its identity pending (8); the trail off the tick
 // (9); no free record (10); no sequence left (11).
 pub use lent_store::admit_trailing_stop;

@@ -2,19 +2,18 @@
 use book::FindAnswer;
 use book::OrderUpdate;
 use book::StopAnswer;
-use book::StopEntry;
+use book::StopWords;
 use host_words::FOUND_WORDS;
 use host_words::FoundWords;
-use host_words::StopWords;
 use pricelevel::Price;
 use pricelevel::Quantity;
+use record_writer::stop_words;
 use stored_stops::side_from;
-use term_words::id_words;
 use term_words::side_known;
-use term_words::terms_words;
 ghost use mathlib.Core.Path.{_≡_};
 ghost use Rattle.book.specs.Answers.{toldFind, toldStop};
-ghost use Rattle.host_words.specs.Answers.{Told, stopWords, foundWords};
+ghost use Rattle.book.specs.Entries.{stopWords};
+ghost use Rattle.host_words.specs.Answers.{Told, foundWords};
 ghost use Rattle.host_words.specs.Arguments.{updateKnown, updateOf};
 
 pub fn update_known(w: &[u64; 4]) -> bool
@@ -43,29 +42,6 @@ pub fn update_of(w: &[u64; 4]) -> OrderUpdate
         2 => OrderUpdate::UpdatePriceAndQuantity(price, quantity),
         _ => OrderUpdate::Replace(side_from(w[1]), price, quantity),
     }
-}
-
-fn stop_words(t: StopEntry) -> StopWords
-    ensures { λ r. ⌜ r ≡ stopWords t ⌝ }
-{
-    let id = id_words(t.id);
-    let terms = terms_words(t.terms);
-    let holder = t.holder;
-    [
-        id[0],
-        id[1],
-        id[2],
-        terms[0],
-        terms[1],
-        terms[2],
-        terms[3],
-        t.quantity.0,
-        t.seq.0,
-        holder.0,
-        holder.1,
-        holder.2,
-        holder.3,
-    ]
 }
 
 pub fn of_stop(r: StopAnswer, answer: &mut StopWords) -> u64

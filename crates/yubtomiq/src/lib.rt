@@ -3,23 +3,24 @@
 // side, change and path flag is a known value (255).
 use book::ElectedWords;
 use book::MovedWords;
+use book::StopWords;
 use error::Refusal;
 use host_words::FoundWords;
 use host_words::HolderWords;
-use host_words::StopWords;
+use host_words::SelectorWords;
 ghost use mathlib.Core.List.{map, _++_};
 ghost use mathlib.Core.Path.{_≡_};
 ghost use lib.ListN.{length};
 ghost use Rattle.book.specs.Calls.{written};
 ghost use Rattle.book.specs.Store.{layOut, pendingQuantity};
 ghost use Rattle.book.specs.Words.{wellFormed};
-ghost use Rattle.book.specs.Entries.{electedWords, movedWords};
+ghost use Rattle.book.specs.Entries.{electedWords, movedWords, stopWords};
 ghost use Rattle.stop_protection.specs.Collar.{tryNew};
 ghost use Rattle.pricelevel.specs.Price.{toPrice};
 ghost use Rattle.both_ways.specs.Ends.{Comparable, Decided};
 ghost use Rattle.yubtomiq.specs.BothWays.{endsByWords, wayWords};
-ghost use Rattle.host_words.specs.Answers.{Told, number, flag, seqWords, idWords, termsWords, stopWords, segmentWords, foundWords, totalsWords, countsWords, passWords, previewWords, limitWords};
-ghost use Rattle.host_words.specs.ByWords.{admitByWords, clearByWords, cancelByWords, updateByWords, findByWords, recordByWords, takeByWords, resetByWords, segmentByWords, walkByWords, passByWords, runByWords, trailedByWords, electedByWords, inconsistencyByWords, previewByWords, limitByWords, checkOf, childByWords};
+ghost use Rattle.host_words.specs.Answers.{Told, number, flag, seqWords, idWords, termsWords, segmentWords, foundWords, listedWords, totalsWords, countsWords, passWords, previewWords, limitWords};
+ghost use Rattle.host_words.specs.ByWords.{admitByWords, clearByWords, cancelByWords, updateByWords, findByWords, collectByWords, massCancelByWords, recordByWords, takeByWords, resetByWords, segmentByWords, walkByWords, passByWords, runByWords, trailedByWords, electedByWords, inconsistencyByWords, previewByWords, limitByWords, checkOf, childByWords};
 
 // ---------------------------------------------------------------------
 // The store
@@ -112,6 +113,39 @@ pub extern "C" fn yubtomiq_pending_stop_quantity(s: &[u64], answer: &mut [u64; 4
     ensures { λ r. ⌜ Told totalsWords (pendingQuantity (now (s .entry))) (now (answer .entry)) r (now (answer .exit)) ⌝ }
 {
     host_store::pending_stop_quantity(s, answer)
+}
+
+// Lists the pending stops that a selector takes, by rising sequence, and answers how many; the store is only read.
+// Refused: 255, 1, 14.
+#[no_mangle]
+pub extern "C" fn yubtomiq_collect(
+    s: &[u64],
+    selector: &SelectorWords,
+    list: &mut [StopWords],
+    answer: &mut [u64; 1],
+) -> u64
+    ensures { λ r. ⌜ (let o = collectByWords (now (selector .entry)) (now (s .entry)) (length (now (list .entry))) in
+        Told listedWords (o .answer) (now (answer .entry)) r (now (answer .exit))
+        × (now (list .exit) ≡ written (map stopWords (o .listed)) (now (list .entry)))) ⌝ }
+{
+    host_collect::collect(s, selector, list, answer)
+}
+
+// Lists the same, takes the listed stops out, one after the other in that order, and answers how many. Refused: 255, 1,
+// 14.
+#[no_mangle]
+pub extern "C" fn yubtomiq_mass_cancel(
+    s: &mut [u64],
+    selector: &SelectorWords,
+    list: &mut [StopWords],
+    answer: &mut [u64; 1],
+) -> u64
+    ensures { λ r. ⌜ (let o = massCancelByWords (now (selector .entry)) (now (s .entry)) (length (now (list .entry))) in
+        Told listedWords (o .answer) (now (answer .entry)) r (now (answer .exit))
+        × (now (s .exit) ≡ o .words)
+        × (now (list .exit) ≡ written (map stopWords (o .listed)) (now (list .entry)))) ⌝ }
+{
+    host_collect::mass_cancel(s, selector, list, answer)
 }
 
 // Lays the store out anew with the same number of records and tick, and resets the path. Refused: 255, 1.

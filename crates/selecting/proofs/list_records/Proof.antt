@@ -43,7 +43,7 @@ loop-again c =
     let h = c .before .before .before .loop-test .taken in (
       omega arith,
       listed-next (entryWordsIn (start .args .s .now)) _ _ (start .pre .1) _ (start .pre .2) _ (l .loop .i) (l .loop .inv .1) h _
-          (rw (c .before .entry-at .ensures) at (c .collected-words .ensures)),
+          (rw (c .before .entry-at .ensures) at (c .stop-words .ensures)),
     )
 
 same-length : tie.Need-same-length Inv-loop μ-loop
