@@ -3,7 +3,7 @@ use Prim.Native.Nat.{ℕ, _-_, _≤_}
 use native.Mathlib.Omega.{arith}
 use mathlib.Core.Path.{_≡_, refl, sym, ap, _∙_}
 use mathlib.Core.Logic.{_≢_}
-use mathlib.Core.Bool.{true, false, false≢true}
+use mathlib.Core.Bool.{true, false≢true}
 use mathlib.Core.List.{List, [], _∷_}
 use mathlib.Core.Option.{Option, none, some}
 use borrow.Author.Tests.{eqb-true, eqb-false}
@@ -25,7 +25,6 @@ use Rattle.book.specs.Lists.{All}
 use Rattle.book.specs.Store.{lookup, vacated}
 use Rattle.book.specs.Valid.{Valid, Fits}
 use Rattle.book.specs.Words.{allDiffer}
-use Rattle.book.specs.declared.StopEntry.{StopEntry}
 
 -- stops of a book, each of another record
 pub record Going (b : Book) (l : List Pending) : Type 0 where

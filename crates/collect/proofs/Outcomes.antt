@@ -9,7 +9,7 @@ use lib.ListN.{length, length-map}
 use Rattle.error.specs.Answer.{refused, accepted}
 use Rattle.error.specs.Questions.{firstNo, decide}
 use Rattle.book.proofs.Questions.{firstNo-none}
-use Rattle.book.specs.Book.{Pending, entries, indices, pendingCount}
+use Rattle.book.specs.Book.{entries, indices, pendingCount}
 use Rattle.book.specs.Calls.{written, pendingIn}
 use Rattle.book.specs.Entries.{stopWords}
 use Rattle.book.specs.Collect.{selected, collectQuestions, CollectOutcome}

@@ -1,16 +1,15 @@
 -- The records that a selector takes from those by sequence are those of the selected stops, and their entries theirs.
-use Prim.Native.Nat.{ℕ, _≤_}
-use native.Mathlib.Omega.{arith}
-use mathlib.Core.Path.{_≡_, refl, sym, ap, _∙_}
+use Prim.Native.Nat.{ℕ}
+use mathlib.Core.Path.{_≡_, refl, ap}
 use mathlib.Core.List.{List, [], _∷_, map}
-use lib.ListN.{length, take}
+use lib.ListN.{take}
 use Rattle.book.proofs.BySequence.{bySequence-holds}
 use Rattle.book.proofs.Filter.{filter-all, filter-map}
 use Rattle.book.proofs.Lists.{all-map}
 use Rattle.book.proofs.Lookup.{InBook}
-use Rattle.book.specs.Book.{Slot, Pending, entries, indices, pendingCount}
-use Rattle.book.specs.Entries.{stopWords}
+use Rattle.book.specs.Book.{Slot, Pending, entries, indices}
 use Rattle.book.specs.Collect.{bySequence, selects, selected}
+use Rattle.book.specs.Entries.{stopWords}
 use Rattle.book.specs.Lists.{All}
 use Rattle.book.specs.Words.{entryAt, slotsAt}
 use Rattle.book.specs.declared.Selector.{Selector}

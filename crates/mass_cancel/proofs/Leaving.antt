@@ -1,24 +1,22 @@
 -- Stops that leave a store one after the other, by the indices of their records: i of the m that a list begins with are
 -- out.
-use Prim.Native.Nat.{ℕ, suc, _+_, _≤_, _<_}
+use Prim.Native.Nat.{ℕ, _+_, _≤_, _<_}
 use native.Mathlib.Omega.{arith}
 use native.Mathlib.Numerals.{add-one}
-use mathlib.Core.Path.{_≡_, refl, sym, ap, _∙_}
+use mathlib.Core.Path.{_≡_, refl, sym, _∙_}
 use mathlib.Core.List.{List, [], _∷_}
 use lib.ListN.{length, getD, take, drop}
 use lib.Seq.{slice-cons, slice-empty}
-use Rattle.pricelevel.specs.declared.Side.{Side}
 use Rattle.stop_terms.specs.declared.StopTerms.{StopTerms}
 use Rattle.book.proofs.Collected.{selected-going}
 use Rattle.book.proofs.Lookup.{InBook}
 use Rattle.book.proofs.VacatedEach.{Going, going-next}
-use Rattle.book.specs.Book.{Book, Pending, sideOf, indices}
+use Rattle.book.specs.Book.{Book, Pending, indices}
 use Rattle.book.specs.Chains.{Member}
 use Rattle.book.specs.Collect.{selected, vacatedEach}
 use Rattle.book.specs.Store.{vacated}
 use Rattle.book.specs.Words.{entryAt}
 use Rattle.book.specs.declared.Selector.{Selector}
-use Rattle.book.specs.declared.StopEntry.{StopEntry}
 use Rattle.by_sequence.specs.Begins.{Begins}
 use Rattle.chains.specs.Records.{Record}
 use Rattle.pending_stops.proofs.Contents.{stored-holds}

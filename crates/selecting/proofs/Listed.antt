@@ -4,8 +4,8 @@ use mathlib.Core.Path.{_≡_, sym, ap, _∙_}
 use mathlib.Core.List.{List, map}
 use native.Mathlib.Numerals.{add-one}
 use native.Mathlib.Omega.{arith}
-use lib.ListN.{length, getD, take, drop, set, length-map, List·getD-map}
-use lib.Seq.{length-take-le, take-all, paste, paste-zero, paste-suc, length-paste, getD-take}
+use lib.ListN.{length, getD, take, set, length-map, List·getD-map}
+use lib.Seq.{length-take-le, take-all, paste, paste-suc, length-paste, getD-take}
 use Rattle.book.specs.Calls.{written}
 
 abbrev pub listed : {A : Type 0} → (ℕ → A) → List ℕ → ℕ → List A → ℕ → List A

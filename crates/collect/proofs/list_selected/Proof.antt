@@ -1,5 +1,5 @@
 -- `collect::list_selected` meets its contract: the records by sequence, those that are taken, and their entries.
-use mathlib.Core.Path.{sym, ap, _∙_}
+use mathlib.Core.Path.{_∙_}
 use native.Mathlib.Omega.{arith}
 use borrow.Author.Needs.{needs}
 use Rattle.book.proofs.BySequence.{bySequence-holds}

@@ -1,10 +1,9 @@
 -- `mass_cancel::cancel_each` meets its contract: a turn takes the first of those that are left out.
 use Prim.Native.Nat.{ℕ, _-_, _≤_}
 use mathlib.Core.List.{List}
-use mathlib.Core.Path.{_≡_, refl, _∙_}
+use mathlib.Core.Path.{_≡_, refl}
 use native.Mathlib.Omega.{arith}
 use lib.ListN.{length}
-use borrow.Author.Needs.{needs}
 use Rattle.book.specs.Book.{Book, indices}
 use Rattle.book.specs.Collect.{selected, vacatedEach}
 use Rattle.book.specs.declared.Selector.{Selector}

@@ -1,9 +1,8 @@
 -- `selecting::keep_selected` meets its contract: the loop keeps `Keeping`.
 use Prim.Native.Nat.{_-_}
-use mathlib.Core.Path.{_≡_, sym, _∙_}
+use mathlib.Core.Path.{sym, _∙_}
 use native.Mathlib.Omega.{arith}
 use borrow.Author.Tests.{not-true, not-false}
-use lib.ListN.{length}
 use borrow.Author.Needs.{needs}
 use Rattle.book.specs.Collect.{selects}
 use Rattle.book.specs.Words.{entryAt}

@@ -3,7 +3,6 @@ use Prim.Native.Nat.{_-_, _≤_}
 use mathlib.Core.Path.{_≡_}
 use mathlib.Core.List.{[]}
 use native.Mathlib.Omega.{arith}
-use lib.ListN.{length}
 use lib.Seq.{length-take-le, getD-take, paste-zero}
 use borrow.Author.Needs.{needs}
 use Rattle.merging.proofs.Records.{named-at}

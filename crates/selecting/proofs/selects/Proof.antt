@@ -1,5 +1,4 @@
 -- `selecting::selects` meets its contract: a case for each selector.
-use mathlib.Core.Path.{sym}
 use native.Mathlib.Omega.{arith}
 use borrow.Author.Tests.{lt-leb, le-leb}
 use borrow.Author.Needs.{needs}
