@@ -1,9 +1,9 @@
 // Lines that lay out, ask and change a store.
 use book::DATA_WORDS;
 use book::MOST_RECORDS;
+use book::StopWords;
 use host_words::FOUND_WORDS;
 use host_words::HolderWords;
-use host_words::StopWords;
 use session_text::lent::LENT;
 use session_text::names;
 use session_text::numbers::four;

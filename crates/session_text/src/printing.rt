@@ -1,6 +1,6 @@
 // Text and numbers on standard output.
+use book::StopWords;
 use host_words::FoundWords;
-use host_words::StopWords;
 
 pub fn text(t: &[u8]) {
     io::write_all(1, t);
