@@ -1,21 +1,20 @@
 -- A chain as the indices of a side's stops in the order of a rank.
 use Prim.Native.Nat.{ℕ, _-_}
-use mathlib.Core.Path.{_≡_, refl, ap, _∙_}
-use mathlib.Core.Bool.{Bool, true, false, cond}
-use mathlib.Core.List.{List, [], _∷_}
+use mathlib.Core.Path.{_≡_}
+use mathlib.Core.List.{List}
 use lib.ListN.{getD}
 use Rattle.book.proofs.Members.{members, gathered-held}
-use Rattle.book.proofs.Sort.{insert, sortBy-all}
+use Rattle.book.proofs.Sort.{map-sortBy}
 use Rattle.book.proofs.Lists.{all-map, all-getD}
 use Rattle.book.proofs.Lookup.{Gathered, gather-gathered}
 use Rattle.book.specs.Valid.{StopFits, SlotFits}
-use Rattle.book.specs.Book.{Slot, vacant, held, Book, chainSide, before, Pending, gather, sort, pendingOn, chain, indices, earlierIn}
+use Rattle.book.specs.Book.{Slot, vacant, held, Book, chainSide, Pending, gather, sort, pendingOn, chain, indices, earlierIn}
 use Rattle.book.specs.Words.{chainIndices}
 use Rattle.book.specs.declared.Chain.{Chain}
 use Rattle.chains.proofs.Ranks.{before-rank}
-use Rattle.chains.specs.Indices.{insertRanked, sortRanked}
+use Rattle.chains.specs.Indices.{ranksEarlier, sortRanked}
 use Rattle.chains.specs.Rank.{rank}
-use Rattle.book.specs.Lists.{sortBy, insertBy, All}
+use Rattle.book.specs.Lists.{All}
 
 -- the rank of the stop that record i holds
 abbrev pub rankOfSlot : Chain → Slot → ℕ
@@ -34,30 +33,11 @@ module _ (c : Chain) (rk : ℕ → ℕ) where
     fits : StopFits (p .entry)
     ranked : rk (p .index) ≡ rank c (p .entry)
 
-  insert-indices : (x : Pending) (l : List Pending) → Ranked x → All Ranked l
-      → indices (insert c x l) ≡ insertRanked rk (x .index) (indices l)
-  unfolding indices insertBy
-  insert-indices x [] r h = refl
-  insert-indices x (y ∷ l) r h =
-      rw (
-        r .ranked,
-        h .0 .ranked,
-        ← before-rank c (x .entry) (y .entry) (r .fits) (h .0 .fits),
-        ← insert-indices x l r (h .1),
-      )
-      (go (before c (x .entry) (y .entry)))
-    where
-      go : (t : Bool) → indices (cond t (x ∷ y ∷ l) (y ∷ insert c x l)) ≡ cond t (x .index ∷ y .index ∷ indices l)
-          (y .index ∷ indices (insert c x l))
-      go true = refl
-      go false = refl
-
   sort-indices : (l : List Pending) → All Ranked l → indices (sort c l) ≡ sortRanked rk (indices l)
-  unfolding indices sortBy
-  sort-indices [] h = refl
-  sort-indices (x ∷ l) h =
-      insert-indices x (sort c l) (h .0) (sortBy-all (earlierIn c) Ranked l (h .1))
-      ∙ ap (insertRanked rk (x .index)) (sort-indices l (h .1))
+  unfolding indices
+  sort-indices =
+      map-sortBy Ranked (λ p. p .index) (earlierIn c) (ranksEarlier rk)
+      (λ x y r q. rw (r .ranked, q .ranked) (before-rank c (x .entry) (y .entry) (r .fits) (q .fits)))
 
 -- the bridge: of a book whose numbers are words
 pub chain-members : (c : Chain) (b : Book) → All SlotFits (b .slots)
