@@ -78,7 +78,7 @@ enum yubtomiq_selector_kind {
 #define YUBTOMIQ_COLLECTED_WORDS (YUBTOMIQ_RECORD_WORDS - 2)
 
 /* Stack that is enough for any call. */
-#define YUBTOMIQ_STACK_BYTES (80 * 1024)
+#define YUBTOMIQ_STACK_BYTES (64 * 1024)
 
 /*
  * The structures are words, in the order of the fields. Of a flag in an argument any value but 0 is "yes", but for those of a path
