@@ -11,7 +11,7 @@ import os
 import subprocess
 import sys
 
-from replay import ELECTED, ENTRY, MOVED, SELECTOR, STOP, TOP, Words
+from replay import ELECTED, ENTRY, HOLDER, MOVED, SELECTOR, STOP, TOP, Words
 
 ORACLE = os.path.join(os.path.dirname(os.path.abspath(__file__)), "target", "oracle")
 EACH = 4  # how often a thing is to occur
@@ -46,7 +46,7 @@ def of_selector(name, selector, stops, collected):
     things = {f"{name} {kind} {amount}"}
     if kind == 0:
         for s in stops:
-            differ = [k for k in range(4) if s[9 + k] != words[k]]
+            differ = [k for k in range(HOLDER) if s[STOP - HOLDER + k] != words[k]]
             if len(differ) == 1:
                 things.add(f"{name} holder other in {differ[0]}")
     elif kind == 1:
