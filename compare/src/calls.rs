@@ -240,9 +240,9 @@ fn of_the_store(name: &str, w: &mut Words) -> Answer {
 fn selector(w: &mut Words) -> Result<Selector, String> {
     let [kind, words @ ..]: [u64; 1 + HOLDER_WORDS] = w.take()?;
     Ok(match kind {
-        0 => Selector::Holder(Holder { words }),
-        1 => Selector::Side(if words[0] == 0 { Side::Buy } else { Side::Sell }),
-        _ => Selector::StopPrices { lowest: words[0], highest: words[1] },
+        0 => Selector::ByHolder(Holder { words }),
+        1 => Selector::BySide(if words[0] == 0 { Side::Buy } else { Side::Sell }),
+        _ => Selector::ByPriceRange { lowest: words[0], highest: words[1] },
     })
 }
 

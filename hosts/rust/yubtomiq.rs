@@ -378,10 +378,10 @@ impl Stop {
 /// Which pending stops to collect.
 #[derive(Clone, Copy, Debug, PartialEq, Eq)]
 pub enum Selector {
-    Holder(Holder),
-    Side(Side),
-    /// Both included; a lowest above the highest selects none.
-    StopPrices {
+    ByHolder(Holder),
+    BySide(Side),
+    /// Of stop prices, both included; a lowest above the highest selects none.
+    ByPriceRange {
         lowest: u64,
         highest: u64,
     },
@@ -390,9 +390,9 @@ pub enum Selector {
 impl Selector {
     fn words(self) -> SelectorWords {
         match self {
-            Selector::Holder(Holder { words: [a, b, c, d] }) => [0, a, b, c, d],
-            Selector::Side(side) => [1, side as u64, 0, 0, 0],
-            Selector::StopPrices { lowest, highest } => [2, lowest, highest, 0, 0],
+            Selector::ByHolder(Holder { words: [a, b, c, d] }) => [0, a, b, c, d],
+            Selector::BySide(side) => [1, side as u64, 0, 0, 0],
+            Selector::ByPriceRange { lowest, highest } => [2, lowest, highest, 0, 0],
         }
     }
 }

@@ -152,8 +152,8 @@ fn damaged(c: &mut Checks) {
         c.refused(s.cancel_pending_stop(one), no);
         c.refused(s.pending_stop_order(one), no);
         c.refused(s.pending_stop_quantity(), no);
-        c.refused(s.collect(Selector::Side(Side::Sell)), no);
-        c.refused(s.mass_cancel(Selector::Side(Side::Sell)), no);
+        c.refused(s.collect(Selector::BySide(Side::Sell)), no);
+        c.refused(s.mass_cancel(Selector::BySide(Side::Sell)), no);
         c.refused(s.clear(&mut path), no);
         c.refused(s.segment(Settings::default(), prints(None, 1, 1)), no);
         c.refused(s.walk(Settings::default(), None, &[]), no);
@@ -191,27 +191,27 @@ fn collects(c: &mut Checks) {
     let stops = [sell(95, 100, 5), buy(105, 100, 5), sell(94, 100, 5), sell(95, 100, 10), buy(95, 90, 5)];
     let mut s = store(6, 0, &stops);
     let numbers = |found: Result<Vec<Stop>, Refusal>| found.map(|stops| stops.iter().map(|s| s.id.low).collect::<Vec<u64>>());
-    let range = |lowest, highest| Selector::StopPrices { lowest, highest };
+    let range = |lowest, highest| Selector::ByPriceRange { lowest, highest };
     let first = Stop { id: Id::sequential(1), terms: sell(95, 100, 5), quantity: 10, seq: 0, holder: holder(1) };
-    c.same("of a holder", numbers(s.collect(Selector::Holder(holder(1)))), Ok(vec![1, 3, 5]));
-    c.same("of nobody", numbers(s.collect(Selector::Holder(Holder::default()))), Ok(vec![]));
-    c.same("of a side", numbers(s.collect(Selector::Side(Side::Buy))), Ok(vec![2, 5]));
+    c.same("of a holder", numbers(s.collect(Selector::ByHolder(holder(1)))), Ok(vec![1, 3, 5]));
+    c.same("of nobody", numbers(s.collect(Selector::ByHolder(Holder::default()))), Ok(vec![]));
+    c.same("of a side", numbers(s.collect(Selector::BySide(Side::Buy))), Ok(vec![2, 5]));
     c.same("closed at both ends", numbers(s.collect(range(94, 95))), Ok(vec![1, 3, 4, 5]));
     c.same("one price", numbers(s.collect(range(105, 105))), Ok(vec![2]));
     c.same("all", numbers(s.collect(range(0, MAX))), Ok(vec![1, 2, 3, 4, 5]));
     c.same("lowest above highest", numbers(s.collect(range(95, 94))), Ok(vec![]));
     c.same("the stop as it is", s.collect(range(95, 95)).map(|stops| stops[0]), Ok(first));
     c.same("a change of price", s.update_pending_stop(Id::sequential(1), Update::Price(94), None).map(|s| s.seq), Ok(5));
-    c.same("by rising sequence", numbers(s.collect(Selector::Holder(holder(1)))), Ok(vec![3, 5, 1]));
+    c.same("by rising sequence", numbers(s.collect(Selector::ByHolder(holder(1)))), Ok(vec![3, 5, 1]));
     let mut one_by_one = s.clone();
     for number in [3, 4, 1] {
         c.same("a cancel", one_by_one.cancel_pending_stop(Id::sequential(number)).is_ok(), true);
     }
-    c.same("mass cancel", numbers(s.mass_cancel(Selector::Side(Side::Sell))), Ok(vec![3, 4, 1]));
+    c.same("mass cancel", numbers(s.mass_cancel(Selector::BySide(Side::Sell))), Ok(vec![3, 4, 1]));
     c.same("the store of the cancels", &s, &one_by_one);
     c.same("the next record", s.words()[8], 1);
     c.same("left", numbers(s.collect(range(0, MAX))), Ok(vec![2, 5]));
-    c.same("none to cancel", numbers(s.mass_cancel(Selector::Side(Side::Sell))), Ok(vec![]));
+    c.same("none to cancel", numbers(s.mass_cancel(Selector::BySide(Side::Sell))), Ok(vec![]));
     c.same("everything", numbers(s.mass_cancel(range(0, MAX))), Ok(vec![2, 5]));
     c.same("empty", numbers(s.mass_cancel(range(0, MAX))), Ok(vec![]));
     let bytes: [u8; 32] = std::array::from_fn(|i| i as u8);
