@@ -28,6 +28,7 @@ nextByWatermark = 10
 abbrev pub firstHolderWord : ℕ
 firstHolderWord = 11
 
+-- all words of a record but the links
 abbrev pub dataLength : ℕ
 dataLength = 13
 
