@@ -89,7 +89,7 @@ abbrev pub updateOf : List ℕ → OrderUpdate
 updateOf w = updateFrom (getD w 0 0) (getD w 1 0) (price (getD w 2 0)) (record { 0 = getD w 3 0 })
 
 -- document 02, One: which stops (0 of a holder, 1 of a side, 2 in a range of stop prices), and the holder's four words,
--- the side, or the lowest and the highest price. Of these only what is asked for is read
+-- the side, or the lowest and the highest price; words behind those have no influence
 abbrev pub selectorKnown : List ℕ → Bool
 selectorKnown w = cond (eqb (getD w 0 0) 1) (sideKnown (getD w 1 0)) (leb (getD w 0 0) 2)
 

@@ -9,9 +9,11 @@ use Rattle.pricelevel.specs.declared.Holder.{Holder}
 abbrev pub holderWords : Holder → List ℕ
 holderWords h = h .0 ∷ h .1 ∷ h .2 ∷ h .3 ∷ []
 
+-- the holder of four words
 abbrev pub holderOf : ℕ → ℕ → ℕ → ℕ → Holder
 holderOf a b c d = record { 0 = a; 1 = b; 2 = c; 3 = d }
 
+-- holders are equal when all four words are
 unfoldable pub sameHolder : Holder → Holder → Bool
 sameHolder a b = eqb (a .0) (b .0) && (eqb (a .1) (b .1) && (eqb (a .2) (b .2) && eqb (a .3) (b .3)))
 
