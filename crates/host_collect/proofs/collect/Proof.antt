@@ -12,8 +12,8 @@ returns-2 c =
     let a = c .before .before .before in
     let i = a .before .before in
     let known = is-known (i .before .before .selector-known .ensures) (i .before .if1 .left) in
-    rw (known, ← i .selector-of .ensures)
-    (rw (a .collect .ensures .0) at (c .of-collect .ensures), a .collect .ensures .1)
+    rw (known, ← i .selector-of .ensures, ← a .collect .ensures .0)
+    (c .of-collect .ensures, a .collect .ensures .1)
 
 pub collect-spec : {M : Type 1} → statement M
 unfolding number answered written
