@@ -1,5 +1,6 @@
 // The preview of a trailing stop, from orderbook-rs's repricing.rs: the stop price that a market price leads to. It
-// reports only moves of the stop, so that a caller who takes the watermark from it falls behind the pending stop's own.
+// reports only moves of the stop, so that a caller who takes the watermark from it falls behind the pending stop's own;
+// the stop itself stays the pending stop's, price by price (proofs/Previewed, document 02, Two).
 use pricelevel::Price;
 use pricelevel::Side;
 use stop_terms::Candidate;

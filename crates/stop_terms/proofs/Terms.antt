@@ -79,6 +79,17 @@ tightened-only Sell stop (some c) = omega (arith, tests)
 tightened-only Buy stop none = omega (arith, tests)
 tightened-only Buy stop (some c) = omega (arith, tests)
 
+-- a stop that a candidate does not tighten is as it was
+pub tightened-still : (s : Side) (stop : ℕ) (c : Option ℕ) → behind s stop (tightened s stop c) ≡ false
+    → tightened s stop c ≡ stop
+tightened-still s stop c h = past-antisym s (tightened s stop c) stop (tightened-only s stop c) h
+
+-- it is tightened exactly if it is behind the candidate
+pub tightened-behind-candidate : (s : Side) (stop c : ℕ) → behind s stop (tightened s stop (some c)) ≡ behind s stop c
+tightened-behind-candidate s stop c = cases (behind s stop c)
+    (λ e. rw (tightened-past s stop c e))
+    (λ e. rw (tightened-kept s stop c e, e) (behind-irrefl s stop))
+
 pub candidate-behind : (s : Side) (trail price c : ℕ) → 1 ≤ trail → candidate s trail price ≡ some c
     → behind s c price ≡ true
 unfolding behind candidate
