@@ -58,7 +58,7 @@ abbrev pub TradeFits : LastPrice → Type 0
 TradeFits last.None = Unit {0}
 TradeFits (last.At p) = PriceFits p
 
-segmentOf-fits : (path : PrintPath) (trade : LastPrice) → PriceFits (path .first) → TradeFits trade
+pub segmentOf-fits : (path : PrintPath) (trade : LastPrice) → PriceFits (path .first) → TradeFits trade
     → SegmentFits (segmentOf path trade)
 unfolding segmentOf lastOr
 segmentOf-fits path last.None h k = record { first = h; last = h }

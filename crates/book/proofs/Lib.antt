@@ -16,6 +16,7 @@ pub mod Walks
 pub mod Examples
 pub mod Execution
 pub mod Filter
+pub mod Found
 pub mod FreeChain
 pub mod FreedRecords
 pub mod HolderExamples

@@ -2,7 +2,7 @@
 use Prim.Native.Nat.{ℕ, zero, suc, _+_, _-_, _≤_, _<_}
 use native.Mathlib.Omega.{arith}
 use native.Mathlib.Nat.{add-zero, add-suc, suc-add, sub-self}
-use mathlib.Core.Path.{_≡_, refl}
+use mathlib.Core.Path.{_≡_, refl, ap}
 use mathlib.Core.Bool.{true, false}
 use mathlib.Core.List.{List, [], _∷_, _++_}
 use mathlib.Core.Option.{Option, none, some}
@@ -72,16 +72,17 @@ module _ (choice : Slot → Option StopEntry) where
 ------------------------------------------------------------------------
 -- A chain holds the pending stops of its side
 
+pub ofSide-some : (d s : Side) (t u : StopEntry) → ofSide d s t ≡ some u → t ≡ u
+unfolding ofSide
+ofSide-some Sell Sell t u e = cc
+ofSide-some Sell Buy t u e = let z : _≡_ {A = ℕ} 0 1 = cc in absurd (omega arith)
+ofSide-some Buy Sell t u e = let z : _≡_ {A = ℕ} 0 1 = cc in absurd (omega arith)
+ofSide-some Buy Buy t u e = cc
+
 pub pendingOn-held : (side : Side) (s : Slot) (t : StopEntry) → pendingOn side s ≡ some t → s ≡ held t
-unfolding pendingOn ofSide
+unfolding pendingOn
 pendingOn-held side vacant t e = let z : _≡_ {A = ℕ} 0 1 = cc in absurd (omega arith)
-pendingOn-held side (held u) t e = go side (sideOf u) e
-  where
-    go : (a b : Side) → ofSide a b u ≡ some t → held u ≡ held t
-    go Sell Sell e = cc
-    go Sell Buy e = let z : _≡_ {A = ℕ} 0 1 = cc in absurd (omega arith)
-    go Buy Sell e = let z : _≡_ {A = ℕ} 0 1 = cc in absurd (omega arith)
-    go Buy Buy e = cc
+pendingOn-held side (held u) t e = ap held (ofSide-some side (sideOf u) u t e)
 
 pub held-pendingOn : (side : Side) (t : StopEntry) → side ≡ sideOf t → pendingOn side (held t) ≡ some t
 unfolding pendingOn ofSide

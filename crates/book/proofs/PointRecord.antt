@@ -1,8 +1,10 @@
--- One record through a point: it stays sound, apart from the other records, and of words.
+-- One record through a point: what it holds afterwards or gives up; and that it stays sound, apart from the other
+-- records, and of words.
 use Prim.Native.Nat.{ℕ, _<_, _+_, _^_}
-use mathlib.Core.Path.{_≡_, refl}
-use mathlib.Core.Bool.{Bool, true}
+use mathlib.Core.Path.{_≡_, refl, sym}
+use mathlib.Core.Bool.{Bool, true, false}
 use mathlib.Core.List.{List, [], _∷_, map}
+use mathlib.Core.Option.{none, some}
 use native.Mathlib.Omega.{arith}
 use borrow.Author.Tests.{not-true}
 use borrow.Table.Steps.{cases}
@@ -14,11 +16,12 @@ use Rattle.pricelevel.specs.declared.Side.the-variants.{Buy, Sell}
 use Rattle.stop_terms.proofs.Terms.{behind-under, behind-asym, tightened-behind}
 use Rattle.stop_terms.specs.Terms.{behind, candidate, tightened, ratcheted, trailedAt}
 use Rattle.book.proofs.Lists.{every-all, all-every, all-mapped}
+use Rattle.book.proofs.Lookup.{ofSide-some}
 use Rattle.book.proofs.Soundness.{consistent-parts, consistent-of, sound-parts, sound-of}
 use Rattle.book.proofs.Stops.{trailed-keeps}
 use Rattle.book.specs.Valid.{StopFits, SlotFits}
-use Rattle.book.specs.Book.{Slot, vacant, held}
-use Rattle.book.specs.Evaluation.{trailed, leaves, vacatedIf, settled}
+use Rattle.book.specs.Book.{Slot, vacant, held, sideOf}
+use Rattle.book.specs.Evaluation.{trailed, leaves, vacatedIf, settled, leavingOn, leaver}
 use Rattle.book.specs.Lists.{every}
 use Rattle.book.specs.Store.{withinWatermark}
 use Rattle.book.specs.Words.{consistent, soundStop, differs, allDiffer}
@@ -32,6 +35,47 @@ unfolding settled vacatedIf
 settled-keeps P kill price vacant h k = h
 settled-keeps P kill price (held t) h k =
     cases (leaves kill price (trailed price t)) (λ e. rw e h) (λ e. rw e (k t refl))
+
+-- a stop that the point leaves in the record, and the one that it was
+pub record StaysAs (kill : Bool) (price : Price) (s : Slot) (u : StopEntry) : Type 0 where
+  pub before : StopEntry
+  pub was : s ≡ held before
+  pub waits : leaves kill price (trailed price before) ≡ false
+  pub after : u ≡ trailed price before
+
+pub settled-stays : (kill : Bool) (price : Price) (s : Slot) (u : StopEntry) → settled kill price s ≡ held u
+    → StaysAs kill price s u
+unfolding settled vacatedIf
+settled-stays kill price vacant u e = let z : _≡_ {A = ℕ} 0 1 = cc in absurd (omega arith)
+settled-stays kill price (held t) u e = cases (leaves kill price (trailed price t))
+    (λ f. let g : vacant ≡ held u = rw f at e in let z : _≡_ {A = ℕ} 0 1 = cc in absurd (omega arith))
+    (λ f. let g : held (trailed price t) ≡ held u = rw f at e in record {
+      before = t;
+      was = refl;
+      waits = f;
+      after = cc;
+    })
+
+-- a stop that it takes out, and the one that it was
+pub record LeavesAs (kill : Bool) (price : Price) (s : Slot) (u : StopEntry) : Type 0 where
+  pub before : StopEntry
+  pub was : s ≡ held before
+  pub leaving : leaves kill price (trailed price before) ≡ true
+  pub after : u ≡ trailed price before
+
+pub leaver-leaves : (kill : Bool) (price : Price) (side : Side) (s : Slot) (u : StopEntry)
+    → leaver kill price side s ≡ some u
+    → LeavesAs kill price s u
+unfolding leaver leavingOn
+leaver-leaves kill price side vacant u e = let z : _≡_ {A = ℕ} 0 1 = cc in absurd (omega arith)
+leaver-leaves kill price side (held t) u e = cases (leaves kill price (trailed price t))
+    (λ f. record {
+      before = t;
+      was = refl;
+      leaving = f;
+      after = sym (ofSide-some side (sideOf (trailed price t)) (trailed price t) u (rw f at e));
+    })
+    (λ f. let g : none ≡ some u = rw f at e in let z : _≡_ {A = ℕ} 0 1 = cc in absurd (omega arith))
 
 ------------------------------------------------------------------------
 -- Soundness

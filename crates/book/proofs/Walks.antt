@@ -2,7 +2,7 @@
 -- tick, and lose as many stops as they elect.
 use Prim.Native.Nat.{ℕ, _≤_, _<_, _+_, _*_, _^_}
 use mathlib.Core.Path.{_≡_, refl, _∙_}
-use mathlib.Core.Bool.{Bool, true, cond}
+use mathlib.Core.Bool.{Bool, true}
 use mathlib.Core.List.{List, [], _∷_}
 use native.Mathlib.Nat.{suc-mul}
 use native.Mathlib.Omega.{arith}
@@ -17,7 +17,7 @@ use Rattle.book.specs.Lists.{All}
 use Rattle.book.proofs.PointRecord.{settled-sound, settled-allDiffer, settled-fits}
 use Rattle.book.specs.Valid.{Valid, SlotFits, Fits}
 use Rattle.book.specs.Book.{Book, pendingCount}
-use Rattle.book.specs.Evaluation.{settled, Evaluated, point, sellsFirst, fallsTo, andThen, walkFrom, segment, lastOf, walk}
+use Rattle.book.specs.Evaluation.{settled, Evaluated, point, sellsFirst, fallsTo, andThen, walkFrom, segmentPrices, segment, lastOf, walk}
 use Rattle.book.specs.Words.{soundStop}
 use Rattle.book.specs.declared.LastPrice.{LastPrice}
 use Rattle.book.specs.declared.LastPrice.the-variants as last
@@ -85,10 +85,6 @@ walkFrom-points kill falls from [] b = done
 walkFrom-points kill falls from (p ∷ ps) b =
     next (sellsFirst falls from p) p
     (walkFrom-points kill falls (last.At p) ps (point kill (sellsFirst falls from p) p b .book))
-
--- the prices of a segment
-abbrev pub segmentPrices : PrintSegment → List Price
-segmentPrices s = cond (eqb (s .first .0) (s .last .0)) (s .first ∷ []) (s .first ∷ s .last ∷ [])
 
 pub segment-points : (kill : Bool) (s : PrintSegment) (b : Book) → PointsAt kill (segmentPrices s) b (segment kill s b)
 unfolding segment

@@ -119,11 +119,13 @@ walkFrom kill falls from (p ∷ ps) b =
     andThen (point kill (sellsFirst falls from p) p b)
     (walkFrom kill falls (last.At p) ps (point kill (sellsFirst falls from p) p b .book))
 
+-- the prices of a segment's points: first, and last if it differs
+abbrev pub segmentPrices : PrintSegment → List Price
+segmentPrices s = cond (eqb (s .first .0) (s .last .0)) (s .first ∷ []) (s .first ∷ s .last ∷ [])
+
 -- a segment: a point at first arrived from prev, and, if last differs, one at last arrived from first
 unfoldable pub segment : Bool → PrintSegment → Book → Evaluated
-segment kill s b =
-    walkFrom kill (fallsTo (s .first) (s .last)) (s .prev)
-    (cond (eqb (s .first .0) (s .last .0)) (s .first ∷ []) (s .first ∷ s .last ∷ [])) b
+segment kill s b = walkFrom kill (fallsTo (s .first) (s .last)) (s .prev) (segmentPrices s) b
 
 -- the last of a run of prices that begins with p
 unfoldable pub lastOf : Price → List Price → Price
