@@ -58,6 +58,13 @@ def preview(side, stop, trail, reference, price):
     return (new, price) if new != stop else None
 
 
+def previewed(terms, price):
+    """Document 02, Two: the terms that a panel draws after a price; an empty preview means that they stay."""
+    side, stop, watermark, trail = terms
+    new = preview(side, stop, trail, watermark, price)
+    return (side, *new, trail) if new else terms
+
+
 def limit(collar, side, stop):
     if collar == 0:
         return None

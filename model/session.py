@@ -74,6 +74,8 @@ class Session:
         if name == "preview":
             new = book.preview(*n)
             return told(*known(n[0] <= 1, [1, *new] if new else [0] * 3), 3)
+        if name == "draw":
+            return " | ".join(drawn(terms, n[4:]))
         if name == "limit":
             at = book.limit(*n)
             return told(*known(n[1] <= 1, [0 if at is None else 1, at or 0]), 2)
@@ -166,6 +168,15 @@ class Session:
         if name in ("layout", "clear", "cancel", "admit", "update", "segment", "walk", "pass", "run", "collect", "mass_cancel"):
             return self.on_store(name, n)
         return self.of_terms(name, n)
+
+
+def drawn(terms, prices):
+    """After each price the stop and the watermark that are kept, and those that are drawn; terms of an unknown side stay."""
+    kept = panel = terms
+    for price in prices:
+        if terms[0] <= 1:
+            kept, panel = book.trailed(kept, price), book.previewed(panel, price)
+        yield f"{price}: kept {kept[1]} {kept[2]}, drawn {panel[1]} {panel[2]}"
 
 
 def listed(name, entries):

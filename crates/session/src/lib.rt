@@ -9,6 +9,8 @@
 //
 //     trailed TERMS PRICE, elected_by TERMS PRICE, inconsistency TERMS     TERMS: side, stop, watermark, trail
 //     preview SIDE STOP TRAIL REFERENCE PRICE, limit COLLAR SIDE STOP      SIDE: 0 buy, 1 sell
+//     draw TERMS PRICE ..      two calls a price: the stop and the watermark that `trailed` keeps, and those of a panel
+//                              that goes by the preview
 //     collar COLLAR, collar_tick COLLAR TICK, child HIGH LOW ID            ID: kind, high, low
 //     record PENDING MAYBE PRICE, take MAYBE, reset                        MAYBE: present, price
 //     well_formed, quantity, find ID, layout N TICK, clear, cancel ID

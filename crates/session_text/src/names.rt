@@ -9,65 +9,67 @@ pub const INCONSISTENCY: u64 = 2;
 
 pub const PREVIEW: u64 = 3;
 
-pub const LIMIT: u64 = 4;
+pub const DRAW: u64 = 4;
 
-pub const COLLAR: u64 = 5;
+pub const LIMIT: u64 = 5;
 
-pub const COLLAR_TICK: u64 = 6;
+pub const COLLAR: u64 = 6;
 
-pub const CHILD: u64 = 7;
+pub const COLLAR_TICK: u64 = 7;
 
-pub const RECORD: u64 = 8;
+pub const CHILD: u64 = 8;
 
-pub const TAKE: u64 = 9;
+pub const RECORD: u64 = 9;
 
-pub const RESET: u64 = 10;
+pub const TAKE: u64 = 10;
 
-pub const WELL_FORMED: u64 = 11;
+pub const RESET: u64 = 11;
 
-pub const QUANTITY: u64 = 12;
+pub const WELL_FORMED: u64 = 12;
 
-pub const FIND: u64 = 13;
+pub const QUANTITY: u64 = 13;
 
-pub const LAYOUT: u64 = 14;
+pub const FIND: u64 = 14;
 
-pub const CLEAR: u64 = 15;
+pub const LAYOUT: u64 = 15;
 
-pub const CANCEL: u64 = 16;
+pub const CLEAR: u64 = 16;
 
-pub const ADMIT: u64 = 17;
+pub const CANCEL: u64 = 17;
 
-pub const UPDATE: u64 = 18;
+pub const ADMIT: u64 = 18;
 
-pub const SEGMENT: u64 = 19;
+pub const UPDATE: u64 = 19;
 
-pub const WALK: u64 = 20;
+pub const SEGMENT: u64 = 20;
 
-pub const PASS: u64 = 21;
+pub const WALK: u64 = 21;
 
-pub const RUN: u64 = 22;
+pub const PASS: u64 = 22;
 
-pub const COLLECT: u64 = 23;
+pub const RUN: u64 = 23;
 
-pub const MASS_CANCEL: u64 = 24;
+pub const COLLECT: u64 = 24;
 
-pub const WORDS: u64 = 25;
+pub const MASS_CANCEL: u64 = 25;
 
-pub const SET: u64 = 26;
+pub const WORDS: u64 = 26;
 
-pub const STORE: u64 = 27;
+pub const SET: u64 = 27;
 
-pub const BOOK: u64 = 28;
+pub const STORE: u64 = 28;
 
-pub const PATH: u64 = 29;
+pub const BOOK: u64 = 29;
 
-pub const LISTS: u64 = 30;
+pub const PATH: u64 = 30;
 
-pub const SHOW: u64 = 31;
+pub const LISTS: u64 = 31;
+
+pub const SHOW: u64 = 32;
 
 // Every name, with a space behind it.
-const NAMES: [u8; 228] =
-    *b"trailed elected_by inconsistency preview limit collar collar_tick child record take reset well_formed quantity find layout clear cancel admit update segment walk pass run collect mass_cancel words set store book path lists show ";
+const NAMES: [u8; 233] =
+    *b"trailed elected_by inconsistency preview draw limit collar collar_tick child record take reset well_formed quantity find layout clear cancel admit update segment walk pass run collect mass_cancel words set store book path lists show ";
 
 // Whether two texts are the same.
 fn same(a: &[u8], b: &[u8]) -> bool {
