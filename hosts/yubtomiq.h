@@ -293,7 +293,10 @@ uint64_t yubtomiq_elected_by(const yubtomiq_terms *terms, uint64_t price);
 /* Returns 0 for consistent terms, 5 for a trail of zero, 6 for a stop beyond its watermark; or 255. */
 uint64_t yubtomiq_inconsistency(const yubtomiq_terms *terms);
 
-/* Writes the preview: new stop and reference, if the price is past the reference and the stop improves. Refused: 255. */
+/* Writes the preview: new stop and reference, if the price is past the reference and the stop improves. Refused: 255.
+   A panel that starts from a stop's terms, takes both over where they are present and keeps its own where they are not has
+   after each price the stop that yubtomiq_trailed gives, and that a store evaluated at these prices has; its reference may
+   lag behind their watermark. */
 uint64_t yubtomiq_calculate_trailing_stop_price(uint64_t side, uint64_t current_stop_price, uint64_t trail_amount,
                                                 uint64_t last_reference_price, uint64_t current_market_price,
                                                 yubtomiq_adjustment *answer);

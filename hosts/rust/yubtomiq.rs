@@ -892,7 +892,9 @@ pub fn evaluate_both_ways(
     }
 }
 
-/// New stop and reference, if the price is past the reference and the stop improves.
+/// New stop and reference, if the price is past the reference and the stop improves. A panel that starts from a stop's
+/// terms, takes both over and keeps its own where there are none has after each price the stop that `StopTerms::trailed`
+/// gives, and that a store evaluated at these prices has; its reference may lag behind their watermark.
 pub fn calculate_trailing_stop_price(
     side: Side,
     current_stop_price: u64,
