@@ -9,7 +9,7 @@ use borrow.Table.Steps.{cases}
 use Rattle.pricelevel.specs.declared.Price.{Price}
 use Rattle.stop_terms.specs.Terms.{behind, ratcheted, trailedAt, electedAt}
 use Rattle.stop_terms.specs.declared.StopTerms.{StopTerms}
-use Rattle.stop_terms.proofs.Terms.{behind-past, behind-irrefl, past-trans, past-antisym, elects-past, candidate-again, tightened-behind, trailedAt-still}
+use Rattle.stop_terms.proofs.Terms.{behind-past, behind-irrefl, past-trans, past-antisym, elects-past, candidate-again, tightened-behind, trailedAt-still, trailedAt-keeps}
 use Rattle.book.proofs.Lists.{all-map}
 use Rattle.book.specs.Lists.{All}
 use Rattle.book.proofs.Soundness.{consistent-parts, sound-parts}
@@ -28,8 +28,8 @@ trailed-still p t h = rw (trailedAt-still (t .terms) p h)
 -- side and trail stay
 pub trailed-keeps : (p : Price) (t : StopEntry)
     → (sideOf (trailed p t) ≡ sideOf t) × (trailed p t .terms .trail ≡ t .terms .trail)
-unfolding trailed trailedAt ratcheted
-trailed-keeps p t = cases (behind (sideOf t) (watermarkOf t) (p .0)) (λ e. rw e (refl, refl)) (λ e. rw e (refl, refl))
+unfolding trailed
+trailed-keeps p t = trailedAt-keeps (t .terms) p
 
 -- a later price that is as far or further undoes what the price before it did
 trailedAt-again : (p q : Price) (t : StopTerms) → behind (t .side) (q .0) (p .0) ≡ false

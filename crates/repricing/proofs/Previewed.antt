@@ -11,7 +11,7 @@ use borrow.Table.Steps.{cases}
 use Rattle.pricelevel.specs.declared.Price.{Price}
 use Rattle.stop_terms.specs.Terms.{behind, candidate, tightened, ratcheted, trailedAt}
 use Rattle.stop_terms.specs.declared.StopTerms.{StopTerms}
-use Rattle.stop_terms.proofs.Terms.{behind-under, behind-irrefl, behind-asym, tightened-past, tightened-only, tightened-still, tightened-behind-candidate, candidate-again}
+use Rattle.stop_terms.proofs.Terms.{behind-under, behind-irrefl, behind-asym, tightened-past, tightened-only, tightened-still, tightened-behind-candidate, candidate-again, trailedAt-keeps}
 use Rattle.repricing.proofs.Preview.{preview-still, preview-beyond, preview-kept, preview-adjusted}
 use Rattle.repricing.specs.Preview.{preview}
 use Rattle.repricing.specs.Previewed.{adjusted, previewedAt, stopAfterEach, DrawsRight}
@@ -161,15 +161,11 @@ previewed-side u p = go (preview (u .side) (u .stop) (u .trail) (u .watermark) p
     go none = refl
     go (some a) = refl
 
-trailed-side : (t : StopTerms) (p : Price) → trailedAt t p .side ≡ t .side
-unfolding trailedAt ratcheted
-trailed-side t p = cases (behind (t .side) (t .watermark .0) (p .0)) (λ e. rw e) (λ e. rw e)
-
 -- still does after the next price
 pub draws-next : (t u : StopTerms) → DrawsRight t u → (p : Price) → DrawsRight (trailedAt t p) (previewedAt u p)
 unfolding stopAfterEach
 draws-next t u d p = record {
-  side = previewed-side u p ∙ d .side ∙ sym (trailed-side t p);
+  side = previewed-side u p ∙ d .side ∙ sym (trailedAt-keeps t p .0);
   stop = let e = d .after-each (p ∷ []) in cc;
   after-each = λ ps. let e = d .after-each (p ∷ ps) in cc;
 }

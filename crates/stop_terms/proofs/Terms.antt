@@ -134,6 +134,13 @@ pub trailedAt-still : (t : StopTerms) (price : Price) → behind (t .side) (t .w
 unfolding trailedAt
 trailedAt-still t price h = rw h
 
+-- side and trail stay
+pub trailedAt-keeps : (t : StopTerms) (price : Price)
+    → (trailedAt t price .side ≡ t .side) × (trailedAt t price .trail ≡ t .trail)
+unfolding trailedAt ratcheted
+trailedAt-keeps t price =
+    cases (behind (t .side) (t .watermark .0) (price .0)) (λ e. rw e (refl, refl)) (λ e. rw e (refl, refl))
+
 pub trailedAt-moved : (t : StopTerms) (price stop : Price) (c : Option ℕ)
     → behind (t .side) (t .watermark .0) (price .0) ≡ true
     → c ≡ candidate (t .side) (t .trail) (price .0) → stop .0 ≡ tightened (t .side) (t .stop .0) c
