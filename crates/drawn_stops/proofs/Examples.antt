@@ -33,14 +33,6 @@ store =
     ∷ 2 ∷ 0 ∷ 9 ∷ 0 ∷ 112 ∷ 108 ∷ 10 ∷ 1 ∷ 1 ∷ 0 ∷ 0 ∷ 0 ∷ 0 ∷ 0 ∷ 0
     ∷ []
 
--- two sells, (98, 100, 10) and (95, 100, 10)
-sells : List ℕ
-sells =
-    2 ∷ 2 ∷ 2 ∷ 0 ∷ 1 ∷ 1 ∷ 0 ∷ 0 ∷ 0
-    ∷ 2 ∷ 0 ∷ 7 ∷ 1 ∷ 98 ∷ 100 ∷ 10 ∷ 1 ∷ 0 ∷ 2 ∷ 2 ∷ 0 ∷ 0 ∷ 0 ∷ 0
-    ∷ 2 ∷ 0 ∷ 9 ∷ 1 ∷ 95 ∷ 100 ∷ 10 ∷ 1 ∷ 1 ∷ 0 ∷ 0 ∷ 0 ∷ 0 ∷ 0 ∷ 0
-    ∷ []
-
 -- no collar, namespace zero
 settings : Bool → Settings
 settings kill = record { kill = kill; protection = protection.None; namespace = record { high = 0; low = 0 } }
@@ -71,11 +63,11 @@ lines kill prices =
     ++ (leftLine (o .words) 1 ∷ leftLine (o .words) 2
     ∷ drawnLine (drawnOf kill 1 run) ∷ drawnLine (drawnOf kill 2 run) ∷ [])
 
--- the prices of a pass from 101 to 98 whose first child prints 108 and then 96
+-- the prices of a pass from 101 to 95, which elects the sell, whose child prints 104 and then 105
 pricesOfPass : List ℕ
 pricesOfPass =
-    map (λ p. p .0) (passPrices (settings false) (1 ∷ 1 ∷ 98 ∷ 108 ∷ 96 ∷ [])
-    (record { prev = last.None; first = toPrice 101; last = toPrice 98 }) (bookOf sells))
+    map (λ p. p .0) (passPrices (settings false) (1 ∷ 1 ∷ 95 ∷ 104 ∷ 105 ∷ [])
+    (record { prev = last.None; first = toPrice 101; last = toPrice 95 }) (bookOf store))
 
 found : List (List (List ℕ))
 found =
@@ -93,9 +85,9 @@ expected =
     ∷ ((7 ∷ 97 ∷ 97 ∷ []) ∷ (0 ∷ 0 ∷ 0 ∷ []) ∷ (9 ∷ 107 ∷ 97 ∷ []) ∷ (97 ∷ 107 ∷ 97 ∷ []) ∷ (107 ∷ 97 ∷ []) ∷ [])
     -- the kill switch is on
     ∷ ((7 ∷ 97 ∷ 107 ∷ []) ∷ (9 ∷ 107 ∷ 97 ∷ []) ∷ (97 ∷ 107 ∷ []) ∷ (107 ∷ 97 ∷ []) ∷ [])
-    ∷ ((101 ∷ 98 ∷ 108 ∷ 96 ∷ []) ∷ [])
+    ∷ ((101 ∷ 95 ∷ 104 ∷ 105 ∷ []) ∷ [])
     ∷ []
 
 examples : found ≡ expected
-unfolding store sells settings drawnLine electedLine leftLine drawnOf lines pricesOfPass found expected before lexicographic withIndex gather insertBy sortBy ofSide pendingOn chain indices pendingCount headOr0 isNone isSome every sameList nextIn chainIndices header recordWords dataWords afterByStop afterByWatermark withLinks recordsWords layout cell recordWord kindOf sideFrom entryAt slotAt slotsAt freeFrom bookOf consistent soundStop differs allDiffer vacantIndices valid areWords wellFormed sameId onTick behind beyond inconsistencyOf inconsistencyNumber candidate tightened ratcheted trailedAt elects electedAt electedEntry electedEntries countsOf pendingIn walkQuestions walkCall trailed leaves vacatedIf settled leavingOn leaver electedOn electedBy freed changedOn mover movedEntry movedOn movedBy fillAt point sellsFirst fallsTo andThen walkFrom segment lastOf walk firstNo decide stored storedBook named lookup isPending scriptPrev scriptSegment executeOne executed childId idOf improved preview adjusted previewedAt followed passPricesFrom passPrices
+unfolding store settings drawnLine electedLine leftLine drawnOf lines pricesOfPass found expected before lexicographic withIndex gather insertBy sortBy ofSide pendingOn chain indices pendingCount headOr0 isNone isSome every sameList nextIn chainIndices header recordWords dataWords afterByStop afterByWatermark withLinks recordsWords layout cell recordWord kindOf sideFrom entryAt slotAt slotsAt freeFrom bookOf consistent soundStop differs allDiffer vacantIndices valid areWords wellFormed sameId onTick behind beyond inconsistencyOf inconsistencyNumber candidate tightened ratcheted trailedAt elects electedAt electedEntry electedEntries countsOf pendingIn walkQuestions walkCall trailed leaves vacatedIf settled leavingOn leaver electedOn electedBy freed changedOn mover movedEntry movedOn movedBy fillAt point sellsFirst fallsTo andThen walkFrom segment lastOf walk firstNo decide stored storedBook named lookup isPending scriptPrev scriptSegment executeOne executed childId idOf improved preview adjusted previewedAt followed passPricesFrom passPrices
 examples = refl

@@ -5,7 +5,7 @@ use session_text::printing;
 use yubtomiq::yubtomiq_calculate_trailing_stop_price;
 use yubtomiq::yubtomiq_trailed;
 
-// The terms that the host keeps after a price.
+// The terms that the host keeps after a price. Those of an unknown side stay, as the call is refused.
 fn trailed(terms: &[u64; 4], price: u64) -> [u64; 4] {
     let mut after = *terms;
     yubtomiq_trailed(terms, price, &mut after);
@@ -37,7 +37,7 @@ fn shown(name: &[u8], terms: &[u64; 4]) {
     printing::number(terms[2]);
 }
 
-// After each price both, behind the price.
+// Prints each price, and behind it what is kept and what is drawn after it.
 pub fn run(n: &[u64]) {
     let prices = rest(n, 4);
     let mut kept = four(n);
