@@ -7,7 +7,7 @@ use lib.ListN.{getD}
 use Rattle.error.specs.Refusal.{refusalNumber}
 use Rattle.error.specs.Verdict.{toldVerdict}
 use Rattle.error.specs.declared.Refusal.{Refusal}
-use Rattle.error.specs.declared.Refusal.the-variants.{StoreNotWellFormed, LayoutOutOfRange, KillSwitchActive, ZeroQuantity, ZeroTrail, StopBeyondWatermark, StopWouldTrigger, DuplicateOrderId, TrailOffTick, NoFreeRecord, SequenceExhausted, OrderNotFound, SamePrice, ListTooShort, InvalidScript, PriceCountOutOfRange, ZeroCollar, CollarOffTick}
+use Rattle.error.specs.declared.Refusal.the-variants.{StoreNotWellFormed, LayoutOutOfRange, KillSwitchActive, ZeroQuantity, ZeroTrail, StopBeyondWatermark, StopWouldTrigger, DuplicateOrderId, TrailOffTick, NoFreeRecord, SequenceExhausted, OrderNotFound, SamePrice, ListTooShort, InvalidScript, PriceCountOutOfRange, ZeroCollar, CollarOffTick, TrialPriceCountOutOfRange}
 use Rattle.error.specs.declared.Verdict.{Verdict}
 use Rattle.error.specs.declared.Verdict.the-variants.{Accepted, Refused}
 
@@ -17,7 +17,7 @@ all =
     ∷ StopWouldTrigger
     ∷ DuplicateOrderId ∷ TrailOffTick ∷ NoFreeRecord ∷ SequenceExhausted ∷ OrderNotFound ∷ SamePrice ∷ ListTooShort
     ∷ InvalidScript
-    ∷ PriceCountOutOfRange ∷ ZeroCollar ∷ CollarOffTick ∷ []
+    ∷ PriceCountOutOfRange ∷ ZeroCollar ∷ CollarOffTick ∷ TrialPriceCountOutOfRange ∷ []
 
 pub numbered : ℕ → Refusal
 numbered k = getD all (k - 1) StoreNotWellFormed
@@ -42,6 +42,7 @@ numbered-number InvalidScript = refl
 numbered-number PriceCountOutOfRange = refl
 numbered-number ZeroCollar = refl
 numbered-number CollarOffTick = refl
+numbered-number TrialPriceCountOutOfRange = refl
 
 pub refusalNumber-injective : (d e : Refusal) → refusalNumber d ≡ refusalNumber e → d ≡ e
 refusalNumber-injective d e h = sym (numbered-number d) ∙ ap numbered h ∙ numbered-number e

@@ -1,5 +1,5 @@
-// The refusals of document 01, "The questions a call goes through". They stand for the Rust's OrderBookError; where
-// that has one error for several questions, each question has its own refusal here.
+// The refusals of document 01, "The questions a call goes through", and of the requests of document 02. They stand for
+// the Rust's OrderBookError; where that has one error for several questions, each question has its own refusal here.
 ghost use mathlib.Core.Path.{_≡_};
 ghost use Rattle.error.specs.Questions.{question, asked};
 ghost use Rattle.error.specs.Refusal.{refusalNumber};
@@ -24,6 +24,7 @@ pub enum Refusal {
     PriceCountOutOfRange,
     ZeroCollar,
     CollarOffTick,
+    TrialPriceCountOutOfRange,
 }
 
 impl Refusal {
@@ -50,6 +51,7 @@ impl Refusal {
             Refusal::PriceCountOutOfRange => 16,
             Refusal::ZeroCollar => 17,
             Refusal::CollarOffTick => 18,
+            Refusal::TrialPriceCountOutOfRange => 19,
         }
     }
 }
