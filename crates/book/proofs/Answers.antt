@@ -5,11 +5,11 @@ use mathlib.Core.Option.{Option, none, some}
 use Rattle.error.proofs.Refusals.{numbered, numbered-number}
 use Rattle.error.specs.Answer.{Answer, refused, accepted}
 use Rattle.pricelevel.specs.declared.Seq.{Seq}
-use Rattle.book.specs.Answers.{toldLayout, toldAdmission, toldStop, toldFind, toldQuantity, toldCollect, toldCounts, toldPass}
+use Rattle.book.specs.Answers.{toldLayout, toldAdmission, toldStop, toldFind, toldQuantity, toldList, toldCounts, toldPass}
 use Rattle.book.specs.declared.AdmissionAnswer.the-variants as admission
 use Rattle.book.specs.declared.AdmissionAnswer.{AdmissionAnswer}
-use Rattle.book.specs.declared.CollectAnswer.the-variants as collected
-use Rattle.book.specs.declared.CollectAnswer.{CollectAnswer}
+use Rattle.book.specs.declared.ListAnswer.the-variants as listed
+use Rattle.book.specs.declared.ListAnswer.{ListAnswer}
 use Rattle.book.specs.declared.Counts.{Counts}
 use Rattle.book.specs.declared.EvaluationAnswer.the-variants as evaluation
 use Rattle.book.specs.declared.EvaluationAnswer.{EvaluationAnswer}
@@ -74,14 +74,14 @@ unfolding readBackQuantity toldQuantity
 toldQuantity-read (quantity.Ok t) = refl
 toldQuantity-read (quantity.Err e) = ap quantity.Err (numbered-number e)
 
-readBackCollect : Answer ℕ → CollectAnswer
-readBackCollect (accepted n) = collected.Ok n
-readBackCollect (refused k) = collected.Err (numbered k)
+readBackList : Answer ℕ → ListAnswer
+readBackList (accepted n) = listed.Ok n
+readBackList (refused k) = listed.Err (numbered k)
 
-toldCollect-read : (r : CollectAnswer) → readBackCollect (toldCollect r) ≡ r
-unfolding readBackCollect toldCollect
-toldCollect-read (collected.Ok n) = refl
-toldCollect-read (collected.Err e) = ap collected.Err (numbered-number e)
+toldList-read : (r : ListAnswer) → readBackList (toldList r) ≡ r
+unfolding readBackList toldList
+toldList-read (listed.Ok n) = refl
+toldList-read (listed.Err e) = ap listed.Err (numbered-number e)
 
 readBackCounts : Answer Counts → EvaluationAnswer
 readBackCounts (accepted c) = evaluation.Ok c

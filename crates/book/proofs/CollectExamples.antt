@@ -12,7 +12,8 @@ use Rattle.pricelevel.specs.declared.Side.the-variants.{Buy, Sell}
 use Rattle.stop_terms.specs.Terms.{behind, beyond, inconsistencyOf, inconsistencyNumber}
 use Rattle.book.specs.Book.{before, lexicographic, withIndex, gather, ofSide, pendingOn, chain, entries, indices, pendingCount}
 use Rattle.book.specs.Calls.{pendingIn}
-use Rattle.book.specs.Collect.{pendingStop, admittedEarlier, bySequence, selects, selected, collectQuestions, CollectOutcome, collect, vacatedEach, massCancel}
+use Rattle.book.specs.BySequence.{pendingStop, admittedEarlier, bySequence}
+use Rattle.book.specs.Collect.{selects, selected, collectQuestions, CollectOutcome, collect, vacatedEach, massCancel}
 use Rattle.book.specs.Entries.{stopWords}
 use Rattle.book.specs.Lists.{headOr0, isNone, every, filter, sameList, insertBy, sortBy}
 use Rattle.book.specs.Store.{stored, storedBook, vacated}

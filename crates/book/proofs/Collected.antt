@@ -20,7 +20,8 @@ use Rattle.book.proofs.VacatedEach.{Going, going-next, vacatedEach-vali
 use Rattle.book.proofs.WellFormed.{Stored, wellFormed-valid, wellFormed-layout, bookOf-slots-length}
 use Rattle.book.specs.Book.{Slot, Book, Pending, entries, pendingCount}
 use Rattle.book.specs.Calls.{pendingIn}
-use Rattle.book.specs.Collect.{bySequence, selects, selected, collectQuestions, collect, vacatedEach, massCancel, cancelEach}
+use Rattle.book.specs.BySequence.{bySequence}
+use Rattle.book.specs.Collect.{selects, selected, collectQuestions, collect, vacatedEach, massCancel, cancelEach}
 use Rattle.book.specs.Lists.{filter}
 use Rattle.book.specs.Store.{StoreOutcome, stored, storedBook, vacated, cancelFound, cancel}
 use Rattle.book.specs.Words.{bookOf, wellFormed}

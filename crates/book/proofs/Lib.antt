@@ -24,6 +24,9 @@ pub mod HolderInfluence
 pub mod Holderless
 pub mod HolderlessEvaluation
 pub mod KeptFormed
+pub mod LadderEntries
+pub mod LadderExamples
+pub mod LadderPoint
 pub mod LaidOut
 pub mod KeyOrder
 pub mod Lists
@@ -39,6 +42,7 @@ pub mod ReadBack
 pub mod Refusals
 pub mod VacantIndices
 pub mod VacatedEach
+pub mod PointElected
 pub mod PointRecord
 pub mod Slots
 pub mod Sort

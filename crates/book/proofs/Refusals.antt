@@ -18,6 +18,7 @@ use Rattle.book.proofs.Questions.{decide-outcomes}
 use Rattle.book.specs.Book.{Pending}
 use Rattle.book.specs.Calls.{Settings, SegmentOutcome, ListOutcome, WalkOutcome, PassOutcome, RunOutcome, pendingIn, segmentCall, walkCall, passed, passCall, runOver, runCall}
 use Rattle.book.specs.Collect.{CollectOutcome, collect, massCancel}
+use Rattle.book.specs.Ladder.{LadderOutcome, ladder}
 use Rattle.error.specs.Questions.{decide}
 use Rattle.book.specs.Store.{StoreOutcome, PathOutcome, layOut, clear, admit, cancelFound, cancel, cancels, changeFound, updateFound, update, lookup}
 use Rattle.book.specs.Words.{bookOf}
@@ -111,6 +112,13 @@ pub massCancel-refused : (selector : Selector) (w : List ℕ) (list : ℕ) → R
 unfolding massCancel
 massCancel-refused selector w list r =
     decide-refused (λ (o : CollectOutcome). o .answer) (λ o. CollectLeft w o) _ _ _ r (λ k. (refl, refl))
+    (λ q. absurd (accepted-refused _ q))
+
+pub ladder-refused : (prices : List Price) (w : List ℕ) (list : ℕ) → Refused (ladder prices w list .answer)
+    → ladder prices w list .listed ≡ []
+unfolding ladder
+ladder-refused prices w list r =
+    decide-refused (λ (o : LadderOutcome). o .answer) (λ o. o .listed ≡ []) _ _ _ r (λ k. refl)
     (λ q. absurd (accepted-refused _ q))
 
 module _ (s : Settings) (w : List ℕ) (elected : ℕ) where

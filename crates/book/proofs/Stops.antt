@@ -9,13 +9,14 @@ use borrow.Table.Steps.{cases}
 use Rattle.pricelevel.specs.declared.Price.{Price}
 use Rattle.stop_terms.specs.Terms.{behind, ratcheted, trailedAt, electedAt}
 use Rattle.stop_terms.specs.declared.StopTerms.{StopTerms}
-use Rattle.stop_terms.proofs.Terms.{behind-past, behind-irrefl, past-trans, past-antisym, elects-past, candidate-again, tightened-behind, trailedAt-still, trailedAt-keeps}
+use Rattle.stop_terms.proofs.Terms.{behind-past, behind-under, behind-irrefl, past-trans, past-antisym, elects-past, candidate-again, tightened-behind, trailedAt-still, trailedAt-keeps}
 use Rattle.book.proofs.Lists.{all-map}
 use Rattle.book.specs.Lists.{All}
 use Rattle.book.proofs.Soundness.{consistent-parts, sound-parts}
 use Rattle.book.specs.Book.{Slot, vacant, held, sideOf, stopOf, watermarkOf}
 use Rattle.book.specs.Evaluation.{trailed, leaves}
-use Rattle.book.specs.Words.{soundStop}
+use Rattle.book.specs.Store.{withinWatermark}
+use Rattle.book.specs.Words.{consistent, soundStop}
 use Rattle.book.specs.declared.StopEntry.{StopEntry}
 
 ------------------------------------------------------------------------
@@ -111,6 +112,20 @@ unfolding trailed trailedAt ratcheted
 trailed-behind q t h k = cases (behind (sideOf t) (watermarkOf t) (q .0))
     (λ e. rw e (tightened-behind (sideOf t) (t .terms .trail) (q .0) (stopOf t) h k))
     (λ e. rw e k)
+
+-- within its watermark, a stop that trails at a price is elected by neither its old stop nor its new one: so the price
+-- elects it exactly if it does before the stop trails
+pub leaves-untrailed : (p : Price) (t : StopEntry) → consistent (t .terms) ≡ true
+    → leaves false p (trailed p t) ≡ leaves false p t
+unfolding withinWatermark
+leaves-untrailed p t c =
+    let h = consistent-parts (t .terms) c in
+    let s = sideOf t in
+    cases (behind s (watermarkOf t) (p .0))
+    (λ e.
+    let k = behind-under s (stopOf t) (watermarkOf t) (p .0) (not-true _ (h .1)) e in
+    rw (leaves-past p t, k, leaves-past p (trailed p t), trailed-behind p t (h .0) k))
+    (λ e. rw (trailed-still p t e))
 
 -- a price that goes the way that a stop trails does not elect it
 pub trailed-stays : (kill : Bool) (p q : Price) (t : StopEntry) → behind (sideOf t) (q .0) (p .0) ≡ false

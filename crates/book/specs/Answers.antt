@@ -6,8 +6,8 @@ use Rattle.error.specs.Refusal.{refusalNumber}
 use Rattle.pricelevel.specs.declared.Seq.{Seq}
 use Rattle.book.specs.declared.AdmissionAnswer.{AdmissionAnswer}
 use Rattle.book.specs.declared.AdmissionAnswer.the-variants as admission
-use Rattle.book.specs.declared.CollectAnswer.{CollectAnswer}
-use Rattle.book.specs.declared.CollectAnswer.the-variants as collected
+use Rattle.book.specs.declared.ListAnswer.{ListAnswer}
+use Rattle.book.specs.declared.ListAnswer.the-variants as listed
 use Rattle.book.specs.declared.Counts.{Counts}
 use Rattle.book.specs.declared.EvaluationAnswer.{EvaluationAnswer}
 use Rattle.book.specs.declared.EvaluationAnswer.the-variants as evaluation
@@ -46,9 +46,9 @@ unfoldable pub toldQuantity : QuantityAnswer → Answer Totals
 toldQuantity (quantity.Ok t) = accepted t
 toldQuantity (quantity.Err e) = refused (refusalNumber e)
 
-unfoldable pub toldCollect : CollectAnswer → Answer ℕ
-toldCollect (collected.Ok n) = accepted n
-toldCollect (collected.Err e) = refused (refusalNumber e)
+unfoldable pub toldList : ListAnswer → Answer ℕ
+toldList (listed.Ok n) = accepted n
+toldList (listed.Err e) = refused (refusalNumber e)
 
 unfoldable pub toldCounts : EvaluationAnswer → Answer Counts
 toldCounts (evaluation.Ok c) = accepted c

@@ -1,37 +1,22 @@
--- The pending stops by rising sequence, the collected ones among them, and their cancel: document 02, One; the order
--- serves its other requests too.
+-- The stops that a selector takes, by rising sequence, and their cancel: document 02, One.
 use Prim.Native.Nat.{ℕ}
 use mathlib.Core.Bool.{Bool, _&&_}
 use mathlib.Core.List.{List, [], _∷_}
-use mathlib.Core.Option.{Option, none, some}
-use lib.Dec.{leb, ltb, eqb}
+use lib.Dec.{leb, eqb}
 use lib.ListN.{length}
 use Rattle.error.specs.Answer.{Answer, refused, accepted}
 use Rattle.error.specs.Questions.{Question, question, firstNo, decide}
 use Rattle.pricelevel.specs.Holder.{sameHolder}
 use Rattle.pricelevel.specs.Side.{sideNumber}
-use Rattle.book.specs.Book.{Slot, vacant, held, Book, Pending, gather, entries, sideOf, stopOf, seqOf}
+use Rattle.book.specs.Book.{Slot, Book, Pending, entries, sideOf, stopOf}
+use Rattle.book.specs.BySequence.{bySequence}
 use Rattle.book.specs.Calls.{pendingIn}
-use Rattle.book.specs.Lists.{sortBy, filter}
+use Rattle.book.specs.Lists.{filter}
 use Rattle.book.specs.Store.{storedBook, vacated, cancel}
 use Rattle.book.specs.Words.{bookOf, wellFormed}
 use Rattle.book.specs.declared.Selector.{Selector}
 use Rattle.book.specs.declared.Selector.the-variants.{ByHolder, BySide, ByPriceRange}
 use Rattle.book.specs.declared.StopEntry.{StopEntry}
-
-------------------------------------------------------------------------
--- By sequence
-
-unfoldable pub pendingStop : Slot → Option StopEntry
-pendingStop vacant = none
-pendingStop (held t) = some t
-
-unfoldable pub admittedEarlier : StopEntry → StopEntry → Bool
-admittedEarlier x y = ltb (seqOf x) (seqOf y)
-
--- the pending stops in rising sequence, with the indices of their records
-unfoldable pub bySequence : List Slot → List Pending
-bySequence ss = sortBy (λ p q. admittedEarlier (p .entry) (q .entry)) (gather pendingStop 1 ss)
 
 ------------------------------------------------------------------------
 -- Collect

@@ -1,11 +1,13 @@
 pub mod Answers
 pub mod Book
+pub mod BySequence
 pub mod Calls
 pub mod Chains
 pub mod Collect
 pub mod Entries
 pub mod Evaluation
 pub mod Holders
+pub mod Ladder
 pub mod Lists
 pub mod Path
 pub mod Runs

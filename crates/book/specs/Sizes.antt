@@ -41,6 +41,10 @@ pub record IsData (k : ℕ) : Type 0 where
 abbrev pub mostPrices : ℕ
 mostPrices = 4096
 
+-- the most trial prices of a ladder: the bits of a word. Document 02, Three
+abbrev pub mostTrialPrices : ℕ
+mostTrialPrices = 64
+
 -- the words of an entry: of a script, of a list of the elected, of a list of the moved
 abbrev pub scriptEntryLength : ℕ
 scriptEntryLength = 5

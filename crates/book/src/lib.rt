@@ -26,8 +26,10 @@ pub const NEXT_BY_STOP: usize = 9;
 
 pub const NEXT_BY_WATERMARK: usize = 10;
 
-// The most prices of a run, and the words of a script's entry.
+// The most prices of a run, the most trial prices of a ladder, and the words of a script's entry.
 pub const MOST_PRICES: usize = 4096;
+
+pub const MOST_TRIAL_PRICES: usize = 64;
 
 pub const SCRIPT_ENTRY_WORDS: usize = 5;
 
@@ -44,6 +46,11 @@ pub type MovedWords = [u64; MOVED_WORDS];
 
 // The words of a stop where it is answered or listed: its record's without the links.
 pub type StopWords = [u64; DATA_WORDS];
+
+// The words of an entry of a ladder: the word of the electing prices, their number, and the place of the first.
+pub const LADDER_WORDS: usize = 3;
+
+pub type LadderWords = [u64; LADDER_WORDS];
 
 // A pending stop: its identity, its terms as they stand, its quantity, its admission sequence and its holder.
 pub struct StopEntry {
@@ -166,8 +173,8 @@ pub enum FindAnswer {
     Err(Refusal),
 }
 
-// What collect and mass_cancel answer: how many stops they listed, or why they were refused.
-pub enum CollectAnswer {
+// What a call that lists stops answers: how many it listed, or why it was refused.
+pub enum ListAnswer {
     Ok(u64),
     Err(Refusal),
 }

@@ -1,4 +1,5 @@
 pub mod Gathering
 pub mod Halving
+pub mod Listed
 pub mod Named
 pub mod Sequenced

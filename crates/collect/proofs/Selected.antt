@@ -8,7 +8,8 @@ use Rattle.book.proofs.Filter.{filter-all, filter-map}
 use Rattle.book.proofs.Lists.{all-map}
 use Rattle.book.proofs.Lookup.{InBook}
 use Rattle.book.specs.Book.{Slot, Pending, entries, indices}
-use Rattle.book.specs.Collect.{bySequence, selects, selected}
+use Rattle.book.specs.BySequence.{bySequence}
+use Rattle.book.specs.Collect.{selects, selected}
 use Rattle.book.specs.Entries.{stopWords}
 use Rattle.book.specs.Lists.{All}
 use Rattle.book.specs.Words.{entryAt, slotsAt}

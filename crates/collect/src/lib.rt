@@ -1,6 +1,6 @@
 // Collecting pending stops by a selector, from orderbook-rs's cancels of many orders: the questions in their order, then
 // the list by rising sequence. The store is only read.
-use book::CollectAnswer;
+use book::ListAnswer;
 use book::MOST_RECORDS;
 use book::Selector;
 use book::StopWords;
@@ -14,7 +14,7 @@ ghost use mathlib.Core.List.{map};
 ghost use mathlib.Core.Path.{_≡_};
 ghost use Prim.Native.Nat.{_≤_};
 ghost use lib.ListN.{length};
-ghost use Rattle.book.specs.Answers.{toldCollect};
+ghost use Rattle.book.specs.Answers.{toldList};
 ghost use Rattle.book.specs.Book.{entries, indices, pendingCount};
 ghost use Rattle.book.specs.Calls.{written};
 ghost use Rattle.book.specs.Entries.{stopWords};
@@ -58,19 +58,19 @@ pub fn list_selected(
 
 // Lists the pending stops that a selector takes, by rising sequence, from the start of the list; later entries stay.
 // Refused: the store is not well formed (1); the list is shorter than the pending count (14).
-pub fn collect(s: &[u64], selector: Selector, list: &mut [StopWords]) -> CollectAnswer
+pub fn collect(s: &[u64], selector: Selector, list: &mut [StopWords]) -> ListAnswer
     ensures { λ r. ⌜ (let o = collect selector (now (s .entry)) (length (now (list .entry))) in
-        (toldCollect r ≡ o .answer)
+        (toldList r ≡ o .answer)
         × (now (list .exit) ≡ written (map stopWords (o .listed)) (now (list .entry)))) ⌝ }
 {
     let verdict = ask_collect(s, list.len());
     match verdict {
-        Verdict::Refused(e) => CollectAnswer::Err(e),
+        Verdict::Refused(e) => ListAnswer::Err(e),
         Verdict::Accepted => {
             let mut order = [0u64; MOST_RECORDS];
             let n = s[0];
             let m = list_selected(s, n, selector, &mut order[..], list);
-            CollectAnswer::Ok(m as u64)
+            ListAnswer::Ok(m as u64)
         }
     }
 }

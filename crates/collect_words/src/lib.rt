@@ -1,5 +1,5 @@
-// The words of a selector, and of what collect and mass_cancel answer.
-use book::CollectAnswer;
+// The words of a selector, and of what a call that lists stops answers.
+use book::ListAnswer;
 use book::Selector;
 use host_words::SelectorWords;
 use pricelevel::Holder;
@@ -7,7 +7,7 @@ use pricelevel::Price;
 use stored_stops::side_from;
 use term_words::side_known;
 ghost use mathlib.Core.Path.{_≡_};
-ghost use Rattle.book.specs.Answers.{toldCollect};
+ghost use Rattle.book.specs.Answers.{toldList};
 ghost use Rattle.host_words.specs.Answers.{Told, listedWords};
 ghost use Rattle.host_words.specs.Arguments.{selectorKnown, selectorOf};
 
@@ -35,14 +35,14 @@ pub fn selector_of(w: &SelectorWords) -> Selector
     }
 }
 
-pub fn of_collect(r: CollectAnswer, answer: &mut [u64; 1]) -> u64
-    ensures { λ k. ⌜ Told listedWords (toldCollect r) (now (answer .entry)) k (now (answer .exit)) ⌝ }
+pub fn of_list(r: ListAnswer, answer: &mut [u64; 1]) -> u64
+    ensures { λ k. ⌜ Told listedWords (toldList r) (now (answer .entry)) k (now (answer .exit)) ⌝ }
 {
     match r {
-        CollectAnswer::Ok(n) => {
+        ListAnswer::Ok(n) => {
             *answer = [n];
             0
         }
-        CollectAnswer::Err(e) => e.number(),
+        ListAnswer::Err(e) => e.number(),
     }
 }

@@ -2,23 +2,21 @@
 -- its terms by themselves.
 use Prim.Native.Nat.{ℕ, _-_, _≤_}
 use mathlib.Core.Path.{_≡_, refl, sym, ap, _∙_}
-use mathlib.Core.Bool.{Bool, true, false}
+use mathlib.Core.Bool.{Bool}
 use mathlib.Core.List.{List, [], _∷_, map}
 use lib.ListN.{getD, List·getD-map}
 use Rattle.pricelevel.specs.declared.Id.{Id}
 use Rattle.pricelevel.specs.declared.Price.{Price}
 use Rattle.pricelevel.specs.declared.Side.{Side}
-use Rattle.pricelevel.specs.declared.Side.the-variants.{Buy, Sell}
 use Rattle.stop_terms.specs.Terms.{trailedAt}
 use Rattle.book.proofs.Lists.{all-map, all-append, all-mapped}
-use Rattle.book.proofs.Lookup.{Gathered, gather-gathered}
+use Rattle.book.proofs.Lookup.{Gathered}
+use Rattle.book.proofs.PointElected.{Gone, electedBy-gone}
 use Rattle.book.proofs.PointRecord.{settled-stays, LeavesAs, leaver-leaves}
-use Rattle.book.proofs.Sort.{sortBy-all}
 use Rattle.book.proofs.Walks.{PointsAt, done, next}
-use Rattle.book.specs.Book.{Slot, vacant, held, Book, Pending, gather, earlierIn}
-use Rattle.book.specs.Evaluation.{trailed, leaves, settled, leaver, electedOn, electedBy, Fill, fillAt, Evaluated, point, andThen}
+use Rattle.book.specs.Book.{Slot, vacant, held, Book, Pending}
+use Rattle.book.specs.Evaluation.{trailed, leaves, settled, leaver, electedBy, Fill, fillAt, Evaluated, point, andThen}
 use Rattle.book.specs.Lists.{All}
-use Rattle.book.specs.declared.Chain.the-variants.{ByStop}
 use Rattle.book.specs.declared.StopEntry.{StopEntry}
 use Rattle.drawn_stops.specs.Drawn.{Followed, pending, elected, followed}
 
@@ -94,27 +92,13 @@ module _ (kill : Bool) (p : Price) (ps : List Price) (ss : List Slot) where
 ------------------------------------------------------------------------
 -- A book
 
-module _ (kill : Bool) (p : Price) (b : Book) where
-  Gone : Pending → Type 0
-  Gone q = (d : Side) × Gathered (leaver kill p d) 1 (b .slots) q
-
-  electedOn-gone : (d : Side) → All Gone (electedOn kill p d b)
-  unfolding electedOn Gone
-  electedOn-gone d = sortBy-all (earlierIn (ByStop d)) Gone (gather (leaver kill p d) 1 (b .slots))
-      (all-map (λ q g. (d, g)) (gather (leaver kill p d) 1 (b .slots)) (gather-gathered (leaver kill p d) 1 (b .slots)))
-
-  electedBy-gone : (first : Bool) → All Gone (electedBy kill first p b)
-  unfolding electedBy
-  electedBy-gone true = all-append Gone (electedOn kill p Sell b) (electedOn kill p Buy b) (electedOn-gone Sell)
-      (electedOn-gone Buy)
-  electedBy-gone false = all-append Gone (electedOn kill p Buy b) (electedOn kill p Sell b) (electedOn-gone Buy)
-      (electedOn-gone Sell)
-
-  point-filled : (first : Bool) (ps : List Price) → All (Filled kill (p ∷ ps) (b .slots)) (point kill first p b .fills)
-  unfolding point Gone
-  point-filled first ps =
-      all-mapped Gone (Filled kill (p ∷ ps) (b .slots)) (fillAt p)
-      (λ q g. filled-first kill p ps (b .slots) (g .0) q (g .1)) (electedBy kill first p b) (electedBy-gone first)
+point-filled : (kill : Bool) (p : Price) (b : Book) (first : Bool) (ps : List Price)
+    → All (Filled kill (p ∷ ps) (b .slots)) (point kill first p b .fills)
+unfolding point
+point-filled kill p b first ps =
+    all-mapped (Gone kill p b) (Filled kill (p ∷ ps) (b .slots)) (fillAt p)
+    (λ q g. filled-first kill p ps (b .slots) (g .side) q (g .gathered)) (electedBy kill first p b)
+    (electedBy-gone kill p b first)
 
 -- every stop that points at the prices leave in a record
 pub points-left : {kill : Bool} {ps : List Price} {b : Book} {o : Evaluated} → PointsAt kill ps b o → (i : ℕ)

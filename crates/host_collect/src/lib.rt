@@ -1,6 +1,6 @@
 // Collect and mass cancel for hosts: every argument as words. `yubtomiq` says what each call does.
 use book::StopWords;
-use collect_words::of_collect;
+use collect_words::of_list;
 use collect_words::selector_known;
 use collect_words::selector_of;
 use host_words::SelectorWords;
@@ -27,7 +27,7 @@ pub fn collect(
         return UNKNOWN;
     }
     let collected = collect::collect(s, selector_of(selector), list);
-    of_collect(collected, answer)
+    of_list(collected, answer)
 }
 
 pub fn mass_cancel(
@@ -45,5 +45,5 @@ pub fn mass_cancel(
         return UNKNOWN;
     }
     let cancelled = mass_cancel::mass_cancel(s, selector_of(selector), list);
-    of_collect(cancelled, answer)
+    of_list(cancelled, answer)
 }

@@ -1,6 +1,6 @@
 // The cancel of all pending stops that a selector takes, from orderbook-rs's mass cancels: collect, and then a cancel of
 // each in the order of the list, so that the free chain begins with the record of the last. It touches no print path.
-use book::CollectAnswer;
+use book::ListAnswer;
 use book::MOST_RECORDS;
 use book::Selector;
 use book::StopWords;
@@ -13,7 +13,7 @@ ghost use mathlib.Core.List.{List, map};
 ghost use mathlib.Core.Path.{_≡_};
 ghost use Prim.Native.Nat.{ℕ};
 ghost use lib.ListN.{length};
-ghost use Rattle.book.specs.Answers.{toldCollect};
+ghost use Rattle.book.specs.Answers.{toldList};
 ghost use Rattle.book.specs.Book.{Book, indices};
 ghost use Rattle.book.specs.Calls.{written};
 ghost use Rattle.book.specs.Entries.{stopWords};
@@ -44,21 +44,21 @@ fn cancel_each(s: &mut [u64], n: u64, order: &[u64], m: usize)
 // Lists the pending stops that a selector takes, by rising sequence, from the start of the list, and takes them out of
 // the store in that order; later entries stay. Refused: the store is not well formed (1); the list is shorter than the
 // pending count (14).
-pub fn mass_cancel(s: &mut [u64], selector: Selector, list: &mut [StopWords]) -> CollectAnswer
+pub fn mass_cancel(s: &mut [u64], selector: Selector, list: &mut [StopWords]) -> ListAnswer
     ensures { λ r. ⌜ (let o = massCancel selector (now (s .entry)) (length (now (list .entry))) in
-        (toldCollect r ≡ o .answer)
+        (toldList r ≡ o .answer)
         × (now (s .exit) ≡ o .words)
         × (now (list .exit) ≡ written (map stopWords (o .listed)) (now (list .entry)))) ⌝ }
 {
     let verdict = ask_collect(&s[..], list.len());
     match verdict {
-        Verdict::Refused(e) => CollectAnswer::Err(e),
+        Verdict::Refused(e) => ListAnswer::Err(e),
         Verdict::Accepted => {
             let mut order = [0u64; MOST_RECORDS];
             let n = s[0];
             let m = list_selected(&s[..], n, selector, &mut order[..], list);
             cancel_each(s, n, &order[..], m);
-            CollectAnswer::Ok(m as u64)
+            ListAnswer::Ok(m as u64)
         }
     }
 }

@@ -6,11 +6,11 @@ use mathlib.Core.List.{List, [], _∷_, _++_, append-nil, append-assoc}
 use native.Mathlib.Numerals.{add-one}
 use native.Mathlib.Omega.{arith}
 use lib.ListN.{length, getD, take, drop, set, length-set}
-use lib.Seq.{length-take-le, take-suc-set, getD-set-other, getD-take, slice-empty, slice-cons}
+use lib.Seq.{length-take-le, take-suc-set, getD-set-other, slice-empty, slice-cons}
 use Rattle.book.specs.Lists.{filter}
 use Rattle.by_sequence.specs.Begins.{Begins}
 use Rattle.chains.specs.Records.{Record}
-use Rattle.merging.proofs.Records.{named-at}
+use Rattle.merging.proofs.Records.{named-among}
 use Rattle.merging.specs.Named.{Named}
 
 pub record Keeping (test : ℕ → Bool) (from : List ℕ) (k : ℕ) (o : List ℕ) (m i : ℕ) : Type 0 where
@@ -29,9 +29,7 @@ module _ {test : ℕ → Bool} {from : List ℕ} {k : ℕ} (room : k ≤ length 
     next = rw (add-one i, s .rest i (omega arith)) (slice-cons i k from 0 h room)
 
     pub keeping-record : {n : ℕ} {w : List ℕ} → Named n w (take k from) → Record n w (getD o i 0)
-    keeping-record named =
-        rw (s .rest i (omega arith), ← getD-take k from i 0 h)
-        (named-at (take k from) i (omega (arith, length-take-le k from room)) named)
+    keeping-record named = rw (s .rest i (omega arith)) (named-among from k i room h named)
 
     pub keeping-passed : test (getD o i 0) ≡ false → Keeping test from k o m (i + 1)
     unfolding filter

@@ -6,13 +6,13 @@
 
 // The values that calls take and answer
 pub use book::AdmissionAnswer;
-pub use book::CollectAnswer;
 pub use book::Counts;
 pub use book::Elected;
 pub use book::EvaluationAnswer;
 pub use book::FindAnswer;
 pub use book::LastPrice;
 pub use book::LayoutAnswer;
+pub use book::ListAnswer;
 pub use book::Moved;
 pub use book::OrderUpdate;
 pub use book::PassAnswer;

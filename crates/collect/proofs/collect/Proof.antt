@@ -2,7 +2,7 @@
 use native.Mathlib.Omega.{arith}
 use borrow.Author.Needs.{needs}
 use Rattle.error.proofs.Verdicts.{all-yes, one-no}
-use Rattle.book.specs.Answers.{toldCollect}
+use Rattle.book.specs.Answers.{toldList}
 use Rattle.book.specs.Collect.{collect}
 use Rattle.book.specs.Words.{bookOf}
 use Rattle.store_words.proofs.ChainsOf.{wellFormed-room}
@@ -27,7 +27,7 @@ list-selected-requires c κs =
     (room, room .few, collect-room w _ h)
 
 returns : tie.Need-returns
-unfolding toldCollect collect
+unfolding toldList collect
 returns c =
     let a = c .before .before .before in
     let g = a .before .before .args in
@@ -36,7 +36,7 @@ returns c =
     (r .0, r .2)
 
 returns-2 : tie.Need-returns-2
-unfolding toldCollect collect bookOf
+unfolding toldList collect bookOf
 returns-2 c =
     let o = c .before .before in
     let e = o .before .before .before .before in

@@ -3,7 +3,8 @@ use mathlib.Core.Path.{_∙_}
 use native.Mathlib.Omega.{arith}
 use borrow.Author.Needs.{needs}
 use Rattle.book.proofs.BySequence.{bySequence-holds}
-use Rattle.book.specs.Collect.{bySequence, selected}
+use Rattle.book.specs.BySequence.{bySequence}
+use Rattle.book.specs.Collect.{selected}
 use Rattle.book.specs.Words.{slotsAt}
 use Rattle.by_sequence.proofs.Sequenced.{indices-named, begins-count}
 use Rattle.collect.proofs.Selected.{selected-in-book, selected-indices, selected-words}

@@ -13,7 +13,7 @@ returns-2 c =
     let i = a .before .before in
     let known = is-known (i .before .before .selector-known .ensures) (i .before .if1 .left) in
     rw (known, ← i .selector-of .ensures, ← a .collect .ensures .0)
-    (c .of-collect .ensures, a .collect .ensures .1)
+    (c .of-list .ensures, a .collect .ensures .1)
 
 pub collect-spec : {M : Type 1} → statement M
 unfolding number answered written

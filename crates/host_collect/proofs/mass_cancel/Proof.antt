@@ -13,7 +13,7 @@ returns-2 c =
     let i = a .before .before in
     let known = is-known (i .before .before .before .selector-known .ensures) (i .before .before .if1 .left) in
     rw (known, ← i .selector-of .ensures, ← a .mass-cancel .ensures .0)
-    (c .of-collect .ensures, a .mass-cancel .ensures .1, a .mass-cancel .ensures .2)
+    (c .of-list .ensures, a .mass-cancel .ensures .1, a .mass-cancel .ensures .2)
 
 pub mass-cancel-spec : {M : Type 1} → statement M
 unfolding number answered written

@@ -3,7 +3,7 @@ use mathlib.Core.Path.{_∙_}
 use native.Mathlib.Omega.{arith}
 use borrow.Author.Needs.{needs}
 use Rattle.error.proofs.Verdicts.{all-yes, one-no}
-use Rattle.book.specs.Answers.{toldCollect}
+use Rattle.book.specs.Answers.{toldList}
 use Rattle.book.specs.Collect.{selected, vacatedEach, massCancel}
 use Rattle.book.specs.Store.{storedBook}
 use Rattle.book.specs.Words.{bookOf}
@@ -41,7 +41,7 @@ cancel-each-requires c κs =
     (bookOf w, beyond w, g .selector, wellFormed-stored w (collect-formed w _ h), o .list-selected .ensures .0)
 
 returns : tie.Need-returns
-unfolding toldCollect massCancel
+unfolding toldList massCancel
 returns c =
     let a = c .before .before .before in
     let g = a .before .before .before .args in
@@ -49,7 +49,7 @@ returns c =
     (one-no _ _ _ (c .before .verdict .given .1) (a .ask-collect .ensures))
 
 returns-2 : tie.Need-returns-2
-unfolding toldCollect massCancel bookOf
+unfolding toldList massCancel bookOf
 returns-2 c =
     let o = c .before .before .before .before .before .before .before in
     let e = o .before .before .before .before .before in

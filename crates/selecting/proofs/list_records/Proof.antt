@@ -3,10 +3,10 @@ use Prim.Native.Nat.{_-_, _≤_}
 use mathlib.Core.Path.{_≡_}
 use mathlib.Core.List.{[]}
 use native.Mathlib.Omega.{arith}
-use lib.Seq.{length-take-le, getD-take, paste-zero}
+use lib.Seq.{paste-zero}
 use borrow.Author.Needs.{needs}
-use Rattle.merging.proofs.Records.{named-at}
-use Rattle.selecting.proofs.Listed.{listed, listed-length, listed-next, listed-end}
+use Rattle.merging.proofs.Records.{named-among}
+use Rattle.by_sequence.proofs.Listed.{listed, listed-length, listed-next, listed-end}
 use Rattle.selecting.specs.Selecting.{entryWordsIn}
 use Rattle.selecting.proofs.list_records.Statement.{statement}
 use Rattle.selecting.proofs.list_records.Tie as tie
@@ -23,10 +23,7 @@ loop-holds c = (omega arith, paste-zero _ 0 [])
 entry-at-requires : tie.Need-entry-at-requires Inv-loop μ-loop
 entry-at-requires c κs =
     let start = c .before .before .before .before .before in
-    let x = start .args in
-    let h = c .before .loop-test .taken in
-    rw (← getD-take (x .m) (x .order .now) _ 0 h)
-    (named-at _ _ (omega (arith, length-take-le (x .m) (x .order .now) (start .pre .1))) (start .pre .0))
+    named-among _ _ _ (start .pre .1) (c .before .loop-test .taken) (start .pre .0)
 
 slice-set-from-list : tie.Need-slice-set-from-list Inv-loop μ-loop
 slice-set-from-list c =
