@@ -42,11 +42,12 @@ enum yubtomiq_refusal {
     YUBTOMIQ_SEQUENCE_EXHAUSTED = 11,
     YUBTOMIQ_ORDER_NOT_FOUND = 12,
     YUBTOMIQ_SAME_PRICE = 13,              /* a change of the price alone, to the price that it is */
-    YUBTOMIQ_LIST_TOO_SHORT = 14,          /* elected and collected: the pending count; moved, of a segment: twice that */
+    YUBTOMIQ_LIST_TOO_SHORT = 14,          /* elected, collected and of a ladder: the pending count; moved, of a segment: twice that */
     YUBTOMIQ_INVALID_SCRIPT = 15,          /* no whole entries, or a flag that is not 0 or 1 */
     YUBTOMIQ_PRICE_COUNT_OUT_OF_RANGE = 16, /* prices of a walk: 1 to 4,096 */
     YUBTOMIQ_ZERO_COLLAR = 17,
     YUBTOMIQ_COLLAR_OFF_TICK = 18,
+    YUBTOMIQ_TRIAL_PRICE_COUNT_OUT_OF_RANGE = 19, /* prices of a ladder: 1 to 64 */
     YUBTOMIQ_UNKNOWN_VALUE = 255           /* asked first: a kind, a side, a change, a selector or a path's flag that is none of those below */
 };
 
@@ -76,6 +77,10 @@ enum yubtomiq_selector_kind {
 #define YUBTOMIQ_HOLDER_WORDS 4
 #define YUBTOMIQ_SELECTOR_WORDS (1 + YUBTOMIQ_HOLDER_WORDS)
 #define YUBTOMIQ_COLLECTED_WORDS (YUBTOMIQ_RECORD_WORDS - 2)
+
+/* The most trial prices of a ladder, and the place of the first where none elects a stop. */
+#define YUBTOMIQ_MOST_TRIAL_PRICES 64
+#define YUBTOMIQ_NO_PLACE 64
 
 /* Stack that is enough for any call. */
 #define YUBTOMIQ_STACK_BYTES (64 * 1024)
@@ -158,6 +163,11 @@ static inline yubtomiq_selector yubtomiq_by_price_range(uint64_t lowest, uint64_
     return s;
 }
 
+/* An entry of a ladder: bit j of `word` says that price j elects the stop; how many do; the place of the first, counted from 0, or YUBTOMIQ_NO_PLACE. */
+typedef struct yubtomiq_ladder_entry {
+    uint64_t word, count, first;
+} yubtomiq_ladder_entry;
+
 typedef struct yubtomiq_found {
     uint64_t found;
     yubtomiq_stop stop;
@@ -235,6 +245,12 @@ uint64_t yubtomiq_collect(const uint64_t *words, size_t count, const yubtomiq_se
 /* The same, and then a cancel of each listed stop, in that order. The path is not touched. Refused: 255, 1, 14. */
 uint64_t yubtomiq_mass_cancel(uint64_t *words, size_t count, const yubtomiq_selector *selector, yubtomiq_stop *list, size_t list_count,
                               uint64_t *listed);
+
+/* Lists which of 1 to YUBTOMIQ_MOST_TRIAL_PRICES prices elect each pending stop, by rising sequence, from the start of a list that has an entry for every
+ * pending stop, and writes how many they are. The stops are taken as they stand and do not trail. Proved: bit j of a stop's word is set exactly if a walk over price j
+ * alone, with the kill switch off, elects that stop. Later entries stay, and so does the store. Refused: 1, 19, 14. */
+uint64_t yubtomiq_ladder(const uint64_t *words, size_t count, const uint64_t *prices, size_t price_count, yubtomiq_ladder_entry *list,
+                         size_t list_count, uint64_t *listed);
 
 /* Empties the store, with the same n and tick, and closes the path. Refused: 255, 1. */
 uint64_t yubtomiq_clear(uint64_t *words, size_t count, yubtomiq_path *path);

@@ -16,9 +16,13 @@ pub const HOLDER_WORDS: usize = 4;
 /// The words of a stop: a record without its two next indices.
 pub const STOP_WORDS: usize = RECORD_WORDS - 2;
 
-/// The words of an entry of a list: of the elected, and of the moved.
+/// The words of an entry of a list: of the elected, of the moved, and of a ladder.
 pub const ELECTED_WORDS: usize = 13;
 pub const MOVED_WORDS: usize = 4;
+pub const LADDER_WORDS: usize = 3;
+
+/// The most trial prices of a ladder.
+pub const MOST_TRIAL_PRICES: usize = 64;
 
 /// What a call reads or writes, as words.
 pub type HolderWords = [u64; HOLDER_WORDS];
@@ -27,11 +31,12 @@ pub type StopWords = [u64; STOP_WORDS];
 pub type FoundWords = [u64; 1 + STOP_WORDS];
 pub type ElectedWords = [u64; ELECTED_WORDS];
 pub type MovedWords = [u64; MOVED_WORDS];
+pub type LadderWords = [u64; LADDER_WORDS];
 
 /// The calls as the library has them, for a host that keeps buffers of its own. A slice is passed as a pointer and a count of elements;
 /// the header says what each call asks of its caller.
 pub mod library {
-    use super::{ElectedWords, FoundWords, HolderWords, MovedWords, SelectorWords, StopWords};
+    use super::{ElectedWords, FoundWords, HolderWords, LadderWords, MovedWords, SelectorWords, StopWords};
 
     unsafe extern "C" {
         pub fn yubtomiq_layout_store(words: *mut u64, count: usize, n: u64, tick: u64) -> u64;
@@ -72,6 +77,15 @@ pub mod library {
             count: usize,
             selector: &SelectorWords,
             list: *mut StopWords,
+            list_count: usize,
+            answer: &mut [u64; 1],
+        ) -> u64;
+        pub fn yubtomiq_ladder(
+            words: *const u64,
+            count: usize,
+            prices: *const u64,
+            price_count: usize,
+            list: *mut LadderWords,
             list_count: usize,
             answer: &mut [u64; 1],
         ) -> u64;
@@ -184,9 +198,10 @@ pub enum Refusal {
     PriceCountOutOfRange = 16,
     ZeroCollar = 17,
     CollarOffTick = 18,
+    TrialPriceCountOutOfRange = 19,
 }
 
-const REFUSALS: [Refusal; 18] = [
+const REFUSALS: [Refusal; 19] = [
     Refusal::StoreNotWellFormed,
     Refusal::LayoutOutOfRange,
     Refusal::KillSwitchActive,
@@ -205,6 +220,7 @@ const REFUSALS: [Refusal; 18] = [
     Refusal::PriceCountOutOfRange,
     Refusal::ZeroCollar,
     Refusal::CollarOffTick,
+    Refusal::TrialPriceCountOutOfRange,
 ];
 
 impl Refusal {
@@ -394,6 +410,28 @@ impl Selector {
             Selector::BySide(side) => [1, side as u64, 0, 0, 0],
             Selector::ByPriceRange { lowest, highest } => [2, lowest, highest, 0, 0],
         }
+    }
+}
+
+/// Which prices of a ladder elect a stop.
+#[derive(Clone, Copy, Debug, PartialEq, Eq)]
+pub struct LadderEntry {
+    /// Bit j says that price j does.
+    pub word: u64,
+    /// How many do.
+    pub count: u64,
+    /// The place of the first that does, counted from 0.
+    pub first: Option<u64>,
+}
+
+impl LadderEntry {
+    fn of(&[word, count, first]: &LadderWords) -> LadderEntry {
+        LadderEntry { word, count, first: (count > 0).then_some(first) }
+    }
+
+    /// Whether the price at a place elects the stop.
+    pub fn elected_by(&self, place: usize) -> bool {
+        place < MOST_TRIAL_PRICES && self.word >> place & 1 == 1
     }
 }
 
@@ -734,6 +772,18 @@ impl Store {
             library::yubtomiq_mass_cancel(words, count, &selector.words(), list.as_mut_ptr(), list.len(), &mut answer)
         };
         done(number, answer).map(|[listed]| stops(&list[..listed as usize]))
+    }
+
+    /// Which of 1 to 64 prices elect each pending stop, by rising sequence. The stops are taken as they stand and do not trail: a price is said to elect a
+    /// stop exactly if a walk over it alone, with the kill switch off, elects that stop.
+    pub fn ladder(&self, prices: &[u64]) -> Result<Vec<LadderEntry>, Refusal> {
+        let mut list = self.list();
+        let mut answer = [0; 1];
+        let (words, count) = (self.words.as_ptr(), self.words.len());
+        let number = unsafe {
+            library::yubtomiq_ladder(words, count, prices.as_ptr(), prices.len(), list.as_mut_ptr(), list.len(), &mut answer)
+        };
+        done(number, answer).map(|[listed]| list[..listed as usize].iter().map(LadderEntry::of).collect())
     }
 
     /// Empties the store, with the same number of records and tick, and closes the path.

@@ -185,6 +185,36 @@ static void answers(void) {
     same("pending", words[1], 0);
 }
 
+/* The ladder: words, counts and places of both sides, refusals in their order, and a list with an entry left over. */
+static void tried(void) {
+    uint64_t words[LENT], before[LENT], listed = 99, prices[YUBTOMIQ_MOST_TRIAL_PRICES + 1];
+    lay_out(words);
+    memcpy(before, words, sizeof words);
+    for (size_t j = 0; j <= YUBTOMIQ_MOST_TRIAL_PRICES; j++)
+        prices[j] = 100;
+    yubtomiq_ladder_entry list[4], lent;
+    memset(list, 1, sizeof list);
+    lent = list[0];
+    same("words of a ladder's entry", WORDS_OF(yubtomiq_ladder_entry), 3);
+    same("ladder, no store", yubtomiq_ladder(words, 8, prices, 0, list, 0, &listed), 1);
+    same("ladder, no price", yubtomiq_ladder(words, LENT, prices, 0, list, 0, &listed), 19);
+    same("ladder, too many prices", yubtomiq_ladder(words, LENT, prices, YUBTOMIQ_MOST_TRIAL_PRICES + 1, list, 0, &listed), 19);
+    same("ladder, short", yubtomiq_ladder(words, LENT, prices, 1, list, 2, &listed), 14);
+    same("the number listed stays", listed, 99);
+    same_words("the list stays", list, &lent, 3);
+    same("ladder, none", yubtomiq_ladder(words, LENT, prices, YUBTOMIQ_MOST_TRIAL_PRICES, list, 4, &listed), 0);
+    same("ladder, how many", listed, 3);
+    for (size_t i = 0; i < 3; i++)
+        same_words("ladder, none elects", &list[i], &(yubtomiq_ladder_entry){0, 0, YUBTOMIQ_NO_PLACE}, 3);
+    same_words("ladder, the next entry stays", &list[3], &lent, 3);
+    prices[0] = 96, prices[1] = 95, prices[2] = 110, prices[3] = 90, prices[63] = 0;
+    same("ladder, some", yubtomiq_ladder(words, LENT, prices, YUBTOMIQ_MOST_TRIAL_PRICES, list, 3, &listed), 0);
+    same_words("ladder, sell at 95", &list[0], &(yubtomiq_ladder_entry){UINT64_C(1) << 63 | 10, 3, 1}, 3);
+    same_words("ladder, sell at 90", &list[1], &(yubtomiq_ladder_entry){UINT64_C(1) << 63 | 8, 2, 3}, 3);
+    same_words("ladder, buy at 110", &list[2], &(yubtomiq_ladder_entry){4, 1, 2}, 3);
+    same_words("the store stays", words, before, LENT);
+}
+
 /* Collect and mass cancel: by each selector, the lists, and what is left. */
 static void collected(void) {
     uint64_t words[LENT], before[LENT], listed = 99;
@@ -267,6 +297,8 @@ static uint64_t full[FULL], other[FULL + YUBTOMIQ_RECORD_WORDS];
 static yubtomiq_elected elected_list[MOST], other_list[MOST];
 static yubtomiq_moved moved_list[2 * MOST];
 static yubtomiq_stop stop_list[MOST];
+static yubtomiq_ladder_entry ladder_list[MOST];
+static uint64_t falling_ladder[YUBTOMIQ_MOST_TRIAL_PRICES];
 static yubtomiq_script_entry script[MOST];
 
 static void values(void) {
@@ -304,7 +336,7 @@ static void fill(uint64_t words[FULL]) {
     }
 }
 
-/* The calls at their worst, on a full store: searches to the end of a chain, all elected at one print, a pass of as many segments, all collected. */
+/* The calls at their worst, on a full store: searches to the end of a chain, all elected at one print, a pass of as many segments, all collected, a ladder of all. */
 static void *worst(void *unused) {
     yubtomiq_path path = {0, 0, 0, 0};
     yubtomiq_id last = sequential(MOST), absent = sequential(MOST + 1);
@@ -352,6 +384,13 @@ static void *worst(void *unused) {
     same("mass cancel, how many", listed, MOST);
     same("mass cancel, pending", full[1], 0);
     same("mass cancel, the head of the free chain", full[8], MOST);
+    fill(full);
+    for (size_t j = 0; j < YUBTOMIQ_MOST_TRIAL_PRICES; j++)
+        falling_ladder[j] = 10000 - j;
+    same("ladder, full", yubtomiq_ladder(full, FULL, falling_ladder, YUBTOMIQ_MOST_TRIAL_PRICES, ladder_list, MOST, &listed), 0);
+    same("ladder, how many", listed, MOST);
+    same("ladder, the second", ladder_list[1].first, 1);
+    same("ladder, the last", ladder_list[MOST - 1].first, YUBTOMIQ_NO_PLACE);
     return NULL;
 }
 
@@ -380,6 +419,7 @@ int main(void) {
     lists();
     answers();
     collected();
+    tried();
     path_and_run();
     values();
     printf("test.c: %d checks, %d failed\n", made, failed);

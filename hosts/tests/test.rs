@@ -129,6 +129,8 @@ fn refusals(c: &mut Checks) {
     c.refused(s.evaluate_pending_stops(Settings::default(), &[1, 0], prints(None, 100, 100)), Refusal::InvalidScript);
     c.refused(s.walk(Settings::default(), None, &[]), Refusal::PriceCountOutOfRange);
     c.refused(s.walk(Settings::default(), None, &[100; 4097]), Refusal::PriceCountOutOfRange);
+    c.refused(s.ladder(&[]), Refusal::TrialPriceCountOutOfRange);
+    c.refused(s.ladder(&[100; MOST_TRIAL_PRICES + 1]), Refusal::TrialPriceCountOutOfRange);
     c.same("a refused call alters nothing", &s, &before);
     c.same("the third admission", admit(&mut s, false, None, three, ok, 1), Ok(2));
     c.refused(admit(&mut s, false, None, Id::sequential(4), ok, 1), Refusal::NoFreeRecord);
@@ -154,6 +156,7 @@ fn damaged(c: &mut Checks) {
         c.refused(s.pending_stop_quantity(), no);
         c.refused(s.collect(Selector::BySide(Side::Sell)), no);
         c.refused(s.mass_cancel(Selector::BySide(Side::Sell)), no);
+        c.refused(s.ladder(&[]), no);
         c.refused(s.clear(&mut path), no);
         c.refused(s.segment(Settings::default(), prints(None, 1, 1)), no);
         c.refused(s.walk(Settings::default(), None, &[]), no);
@@ -217,6 +220,32 @@ fn collects(c: &mut Checks) {
     let bytes: [u8; 32] = std::array::from_fn(|i| i as u8);
     c.same("big-endian", Holder::from_bytes(bytes).words[3], 0x1819_1a1b_1c1d_1e1f);
     c.same("its bytes", Holder::from_bytes(bytes).to_bytes(), bytes);
+}
+
+/// The ladder on the store of the forecast and on both sides; and each bit against a walk over its price alone, on a copy.
+fn ladders(c: &mut Checks) {
+    let entry = |word, count, first| LadderEntry { word, count, first };
+    let s = store(3, 0, &[sell(98, 100, 10), sell(95, 100, 10)]);
+    c.same("ladder", s.ladder(&[94, 96, 98, 99]), Ok(vec![entry(7, 3, Some(0)), entry(1, 1, Some(0))]));
+    let mut last = [99; MOST_TRIAL_PRICES];
+    last[63] = 98;
+    c.same("bit 63, and none", s.ladder(&last), Ok(vec![entry(1 << 63, 1, Some(63)), entry(0, 0, None)]));
+    c.same("all", s.ladder(&[0; MOST_TRIAL_PRICES]), Ok(vec![entry(MAX, 64, Some(0)); 2]));
+    c.same("no stop", store(3, 0, &[]).ladder(&[1]), Ok(vec![]));
+    let mut s = store(5, 0, &[sell(95, 100, 5), buy(105, 100, 5), sell(0, 100, 5), buy(MAX, 100, 5)]);
+    c.same("the first is listed last", s.update_pending_stop(Id::sequential(1), Update::Price(94), None).map(|s| s.seq), Ok(4));
+    let before = s.clone();
+    let prices = [94, 95, 0, MAX, 105, 104, 200];
+    let entries = s.ladder(&prices).expect("a ladder");
+    let ids: Vec<Id> = s.collect(Selector::ByPriceRange { lowest: 0, highest: MAX }).expect("stops").iter().map(|s| s.id).collect();
+    for (j, &price) in prices.iter().enumerate() {
+        let elected = s.clone().walk(Settings::default(), None, &[price]).expect("a walk").elected;
+        for (id, e) in ids.iter().zip(&entries) {
+            c.same("a bit and a walk", e.elected_by(j), elected.iter().any(|x| x.id == *id));
+        }
+    }
+    c.same("beyond the prices", entries.iter().any(|e| (prices.len()..100).any(|j| e.elected_by(j))), false);
+    c.same("the store stays", &s, &before);
 }
 
 // ---------------------------------------------------------------------
@@ -354,6 +383,7 @@ fn main() {
     damaged(&mut c);
     changes(&mut c);
     collects(&mut c);
+    ladders(&mut c);
     forecast_example(&mut c);
     order_example(&mut c);
     turning_example(&mut c);

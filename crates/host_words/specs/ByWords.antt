@@ -19,6 +19,7 @@ use Rattle.book.specs.Calls.{SegmentOutcome, segmentCall, WalkOutcome, walkCall
 use Rattle.book.specs.declared.PassCounts.{PassCounts}
 use Rattle.book.specs.Calls as calls
 use Rattle.book.specs.Collect.{CollectOutcome, collect, massCancel}
+use Rattle.book.specs.Ladder.{LadderOutcome, ladder}
 use Rattle.book.specs.Path.{recorded, closed, take}
 use Rattle.book.specs.Store.{StoreOutcome, PathOutcome, admit, cancel, clear, find}
 use Rattle.book.specs.Store as store
@@ -82,6 +83,9 @@ abbrev pub massCancelByWords : List ℕ → List ℕ → ℕ → CollectOutcome
 massCancelByWords selector w list =
     cond (selectorKnown selector) (massCancel (selectorOf selector) w list)
     (record { answer = unknown; words = w; listed = [] })
+
+abbrev pub ladderByWords : List ℕ → List ℕ → ℕ → LadderOutcome
+ladderByWords prices w list = ladder (map toPrice prices) w list
 
 ------------------------------------------------------------------------
 -- The print path

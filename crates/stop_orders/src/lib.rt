@@ -10,6 +10,7 @@ pub use book::Counts;
 pub use book::Elected;
 pub use book::EvaluationAnswer;
 pub use book::FindAnswer;
+pub use book::LadderWords;
 pub use book::LastPrice;
 pub use book::LayoutAnswer;
 pub use book::ListAnswer;
@@ -72,6 +73,10 @@ pub use collect::collect;
 
 // Lists the same and then takes the listed stops out, in that order. Refused as collect is.
 pub use mass_cancel::mass_cancel;
+
+// Lists which of some trial prices elect each pending stop, as it stands, by rising sequence; the store is only read.
+// Refused: it is not well formed (1); not 1 to 64 prices (19); the list is shorter than the pending count (14).
+pub use ladder::ladder;
 
 // The pending quantity of each side. The store is only read. Refused: it is not well formed (1).
 pub use store_calls::pending_stop_quantity;

@@ -2,6 +2,7 @@
 // it is accepted, else the number of the refusal, and then alters nothing; before all else it asks that each kind,
 // side, change and path flag is a known value (255).
 use book::ElectedWords;
+use book::LadderWords;
 use book::MovedWords;
 use book::StopWords;
 use error::Refusal;
@@ -15,12 +16,13 @@ ghost use Rattle.book.specs.Calls.{written};
 ghost use Rattle.book.specs.Store.{layOut, pendingQuantity};
 ghost use Rattle.book.specs.Words.{wellFormed};
 ghost use Rattle.book.specs.Entries.{electedWords, movedWords, stopWords};
+ghost use Rattle.book.specs.Ladder.{ladderWords};
 ghost use Rattle.stop_protection.specs.Collar.{tryNew};
 ghost use Rattle.pricelevel.specs.Price.{toPrice};
 ghost use Rattle.both_ways.specs.Ends.{Comparable, Decided};
 ghost use Rattle.yubtomiq.specs.BothWays.{endsByWords, wayWords};
 ghost use Rattle.host_words.specs.Answers.{Told, number, flag, seqWords, idWords, termsWords, segmentWords, foundWords, listedWords, totalsWords, countsWords, passWords, previewWords, limitWords};
-ghost use Rattle.host_words.specs.ByWords.{admitByWords, clearByWords, cancelByWords, updateByWords, findByWords, collectByWords, massCancelByWords, recordByWords, takeByWords, resetByWords, segmentByWords, walkByWords, passByWords, runByWords, trailedByWords, electedByWords, inconsistencyByWords, previewByWords, limitByWords, checkOf, childByWords};
+ghost use Rattle.host_words.specs.ByWords.{admitByWords, clearByWords, cancelByWords, updateByWords, findByWords, collectByWords, massCancelByWords, ladderByWords, recordByWords, takeByWords, resetByWords, segmentByWords, walkByWords, passByWords, runByWords, trailedByWords, electedByWords, inconsistencyByWords, previewByWords, limitByWords, checkOf, childByWords};
 
 // ---------------------------------------------------------------------
 // The store
@@ -146,6 +148,23 @@ pub extern "C" fn yubtomiq_mass_cancel(
         × (now (list .exit) ≡ written (map stopWords (o .listed)) (now (list .entry)))) ⌝ }
 {
     host_collect::mass_cancel(s, selector, list, answer)
+}
+
+// Lists which of some trial prices elect each pending stop, as it stands, by rising sequence: a word whose bit j says that
+// price j does, how many do, and the place of the first, or 64. Answers how many stops are listed; the store is only read.
+// Refused: 1, 19, 14.
+#[no_mangle]
+pub extern "C" fn yubtomiq_ladder(
+    s: &[u64],
+    prices: &[u64],
+    list: &mut [LadderWords],
+    answer: &mut [u64; 1],
+) -> u64
+    ensures { λ r. ⌜ (let o = ladderByWords (now (prices .entry)) (now (s .entry)) (length (now (list .entry))) in
+        Told listedWords (o .answer) (now (answer .entry)) r (now (answer .exit))
+        × (now (list .exit) ≡ written (map ladderWords (o .listed)) (now (list .entry)))) ⌝ }
+{
+    host_ladder::ladder(s, prices, list, answer)
 }
 
 // Lays the store out anew with the same number of records and tick, and resets the path. Refused: 255, 1.
