@@ -5,7 +5,7 @@ A refused call answers None and alters nothing. Prices, quantities and sequences
 import hashlib
 
 TOP = 2**64 - 1
-MOST_RECORDS, MOST_PRICES, HEADER, RECORD = 545, 4096, 9, 15
+MOST_RECORDS, MOST_PRICES, MOST_TRIAL_PRICES, HEADER, RECORD = 545, 4096, 64, 9, 15
 BUY, SELL = 0, 1
 UNKNOWN = 255
 
@@ -350,6 +350,28 @@ def collect(w, selector, room, cancels=False):
 
 def mass_cancel(w, selector, room):
     return collect(w, selector, room, cancels=True)
+
+
+# ---------------------------------------------------------------------
+# The ladder: which trial prices elect each stop, whose terms do not trail
+
+NO_PLACE = 64
+
+
+def ladder(w, prices, room):
+    """The number, how many are listed, and of each stop by rising sequence the word, how many prices elect it, and the place of the first."""
+    book = read(w)
+    if not book:
+        return 1, None, []
+    if not 1 <= len(prices) <= MOST_TRIAL_PRICES:
+        return 19, None, []
+    if room < len(book.stops()):
+        return 14, None, []
+    entries = []
+    for stop in sorted(book.stops(), key=lambda s: s.seq):
+        places = [j for j, price in enumerate(prices) if elected_by(stop.terms, price)]
+        entries.append([sum(1 << j for j in places), len(places), min(places, default=NO_PLACE)])
+    return 0, [len(entries)], entries
 
 
 # ---------------------------------------------------------------------

@@ -6,6 +6,7 @@ import os
 
 import evaluation_cases
 import forecast
+import ladder_cases
 import preview_cases
 import session
 import store_cases
@@ -20,5 +21,5 @@ def write(crate, lines, answers):
             out.write(text)
 
 
-write("call_cases", store_cases.lines() + evaluation_cases.lines() + preview_cases.lines(), session.answers)
+write("call_cases", store_cases.lines() + evaluation_cases.lines() + preview_cases.lines() + ladder_cases.lines(), session.answers)
 write("forecast_cases", forecast.lines(), forecast.answers)

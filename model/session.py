@@ -122,6 +122,10 @@ class Session:
         number, answer, entries = call(w, words_of(n, 0, book.SELECTOR_WORDS), self.rooms[2])
         return told(number, answer, 1) + listed("collected", entries)
 
+    def tried(self, w, n):
+        number, answer, entries = book.ladder(w, n, self.rooms[2])
+        return told(number, answer, 1) + listed("ladder", entries)
+
     def evaluated(self, w, name, n):
         settings, room = (n[0], n[1], n[2:4]), self.rooms[:2]
         if name == "segment":
@@ -147,6 +151,8 @@ class Session:
         w = self.words()
         if name in ("collect", "mass_cancel"):
             line = self.collected(w, name, n)
+        elif name == "ladder":
+            line = self.tried(w, n)
         else:
             line = (self.evaluated if name in ("segment", "walk", "pass", "run") else self.altered)(w, name, n)
         self.buffer[:self.size] = w
@@ -165,7 +171,7 @@ class Session:
             return self.of_path(name, n)
         if name in ("well_formed", "quantity", "find"):
             return self.asked(name, n)
-        if name in ("layout", "clear", "cancel", "admit", "update", "segment", "walk", "pass", "run", "collect", "mass_cancel"):
+        if name in ("layout", "clear", "cancel", "admit", "update", "segment", "walk", "pass", "run", "collect", "mass_cancel", "ladder"):
             return self.on_store(name, n)
         return self.of_terms(name, n)
 

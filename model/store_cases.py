@@ -75,7 +75,7 @@ def room(words):
 # every call on a store, which a damaged one refuses
 EVERY = ["well_formed", "admit 0 0 0 2 0 9 1 90 100 10 1", "update 2 0 1 0 0 0 2 0 0", "cancel 2 0 1", "clear", "find 2 0 1", "quantity",
          "segment 0 0 0 0 0 0 100 90", "walk 0 0 0 0 0 0 100 90", "pass 0 0 0 0 0 0 100 90", "run 0 0 0 0 1 90", "collect 1 1",
-         "mass_cancel 2 0 1000"]
+         "mass_cancel 2 0 1000", "ladder 90 100"]
 
 
 def broken(words, lent):

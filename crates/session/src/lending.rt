@@ -10,7 +10,7 @@ pub struct Desk {
     pub words: usize,
     pub elected: usize,
     pub moved: usize,
-    pub collected: usize,
+    pub listed: usize,
     pub show: u64,
 }
 
@@ -20,7 +20,7 @@ pub fn empty() -> Desk {
         words: 0,
         elected: 0,
         moved: 0,
-        collected: 0,
+        listed: 0,
         show: 0,
     }
 }
@@ -47,7 +47,7 @@ fn with_words(desk: Desk, many: usize) -> Desk {
         words: many,
         elected: desk.elected,
         moved: desk.moved,
-        collected: desk.collected,
+        listed: desk.listed,
         show: desk.show,
     }
 }
@@ -57,7 +57,7 @@ fn with_lists(desk: Desk, n: &[u64]) -> Desk {
         words: desk.words,
         elected: word(n, 0) as usize,
         moved: word(n, 1) as usize,
-        collected: word(n, 2) as usize,
+        listed: word(n, 2) as usize,
         show: desk.show,
     }
 }
@@ -67,7 +67,7 @@ fn with_show(desk: Desk, show: u64) -> Desk {
         words: desk.words,
         elected: desk.elected,
         moved: desk.moved,
-        collected: desk.collected,
+        listed: desk.listed,
         show: show,
     }
 }

@@ -15,8 +15,12 @@ fn alter(call: u64, s: &mut [u64], path: &mut [u64; 4], n: &[u64], desk: Desk) {
     }
     if call < names::COLLECT {
         session_lists::run(call, s, path, n, desk.elected, desk.moved);
+        return;
+    }
+    if call < names::LADDER {
+        session_lists::collect(call, s, n, desk.listed);
     } else {
-        session_lists::collect(call, s, n, desk.collected);
+        session_lists::ladder(&s[..], n, desk.listed);
     }
 }
 

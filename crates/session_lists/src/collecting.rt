@@ -3,7 +3,7 @@ use crate::entries::entry;
 use book::DATA_WORDS;
 use book::StopWords;
 use session_text::lent::LENT;
-use session_text::lent::MOST_COLLECTED;
+use session_text::lent::MOST_LISTED;
 use session_text::names;
 use session_text::numbers::five;
 use session_text::printing;
@@ -54,7 +54,7 @@ fn on_list(call: u64, s: &mut [u64], n: &[u64], list: &mut [StopWords]) {
 
 // Lends a list of so many entries, at most one more than a store can need.
 pub fn collect(call: u64, s: &mut [u64], n: &[u64], many: usize) {
-    let mut room = [[LENT; DATA_WORDS]; MOST_COLLECTED];
+    let mut room = [[LENT; DATA_WORDS]; MOST_LISTED];
     let list: &mut [StopWords] = &mut room;
     if many <= list.len() {
         on_list(call, s, n, &mut list[0..many]);

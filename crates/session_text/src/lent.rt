@@ -13,4 +13,4 @@ pub const MOST_ELECTED: usize = MOST_RECORDS + 1;
 
 pub const MOST_MOVED: usize = 2 * MOST_RECORDS + 1;
 
-pub const MOST_COLLECTED: usize = MOST_RECORDS + 1;
+pub const MOST_LISTED: usize = MOST_RECORDS + 1;

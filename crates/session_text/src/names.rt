@@ -53,23 +53,25 @@ pub const COLLECT: u64 = 24;
 
 pub const MASS_CANCEL: u64 = 25;
 
-pub const WORDS: u64 = 26;
+pub const LADDER: u64 = 26;
 
-pub const SET: u64 = 27;
+pub const WORDS: u64 = 27;
 
-pub const STORE: u64 = 28;
+pub const SET: u64 = 28;
 
-pub const BOOK: u64 = 29;
+pub const STORE: u64 = 29;
 
-pub const PATH: u64 = 30;
+pub const BOOK: u64 = 30;
 
-pub const LISTS: u64 = 31;
+pub const PATH: u64 = 31;
 
-pub const SHOW: u64 = 32;
+pub const LISTS: u64 = 32;
+
+pub const SHOW: u64 = 33;
 
 // Every name, with a space behind it.
-const NAMES: [u8; 233] =
-    *b"trailed elected_by inconsistency preview draw limit collar collar_tick child record take reset well_formed quantity find layout clear cancel admit update segment walk pass run collect mass_cancel words set store book path lists show ";
+const NAMES: [u8; 240] =
+    *b"trailed elected_by inconsistency preview draw limit collar collar_tick child record take reset well_formed quantity find layout clear cancel admit update segment walk pass run collect mass_cancel ladder words set store book path lists show ";
 
 // Whether two texts are the same.
 fn same(a: &[u8], b: &[u8]) -> bool {
