@@ -1,9 +1,11 @@
 // The compiled library, called by its plain names.
 
 use crate::yubtomiq::library::{
-    yubtomiq_admit_trailing_stop, yubtomiq_collect, yubtomiq_layout_store, yubtomiq_mass_cancel, yubtomiq_walk, yubtomiq_well_formed,
+    yubtomiq_admit_trailing_stop, yubtomiq_collect, yubtomiq_ladder, yubtomiq_layout_store, yubtomiq_mass_cancel, yubtomiq_walk, yubtomiq_well_formed,
 };
-use crate::yubtomiq::{ELECTED_WORDS, ElectedWords, HEADER_WORDS, RECORD_WORDS, STOP_WORDS, SelectorWords, StopWords};
+use crate::yubtomiq::{
+    ELECTED_WORDS, ElectedWords, HEADER_WORDS, LADDER_WORDS, LadderWords, RECORD_WORDS, STOP_WORDS, SelectorWords, StopWords,
+};
 use published::Side;
 use published::orderbook::desk::{Selector, Stop};
 
@@ -15,6 +17,7 @@ pub struct Store {
     pub words: Vec<u64>,
     elected: Vec<ElectedWords>,
     collected: Vec<StopWords>,
+    tried: Vec<LadderWords>,
 }
 
 /// The words of a selector.
@@ -29,7 +32,8 @@ fn words_of(selector: Selector) -> SelectorWords {
 impl Store {
     pub fn with(stops: &[Stop], n: usize) -> Self {
         let words = vec![0; HEADER_WORDS + RECORD_WORDS * n];
-        let mut store = Self { words, elected: vec![[0; ELECTED_WORDS]; n], collected: vec![[0; STOP_WORDS]; n] };
+        let mut store =
+            Self { words, elected: vec![[0; ELECTED_WORDS]; n], collected: vec![[0; STOP_WORDS]; n], tried: vec![[0; LADDER_WORDS]; n] };
         let refused = unsafe { yubtomiq_layout_store(store.words.as_mut_ptr(), store.words.len(), n as u64, 0) };
         assert_eq!(refused, 0, "layout");
         for stop in stops {
@@ -76,6 +80,16 @@ impl Store {
         let refused = unsafe { yubtomiq_mass_cancel(words, len, &words_of(selector), list, room, &mut answer) };
         assert_eq!(refused, 0, "mass cancel");
         answer[0] as usize
+    }
+
+    /// How many prices elect stops, counted once a stop.
+    pub fn ladder(&mut self, prices: &[u64]) -> u64 {
+        let mut answer = [0; 1];
+        let (words, len) = (self.words.as_ptr(), self.words.len());
+        let (list, room) = (self.tried.as_mut_ptr(), self.tried.len());
+        let refused = unsafe { yubtomiq_ladder(words, len, prices.as_ptr(), prices.len(), list, room, &mut answer) };
+        assert_eq!(refused, 0, "ladder");
+        self.tried[..answer[0] as usize].iter().map(|entry| entry[1]).sum()
     }
 
     /// How many moved and how many were elected.

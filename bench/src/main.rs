@@ -115,8 +115,8 @@ fn selected(name: &str, selector: Selector) {
     row(&format!("mass cancel on a full store, {name}: {found} stops"), 1, rust, ours, "");
 }
 
-/// The form check of a full store against a plain copy of its words.
-fn form() {
+/// Calls that only read a full store, each against a plain copy of its words.
+fn reading() {
     const TIMES: usize = 100;
     let store = Store::with(&stops::full(RECORDS as u64), RECORDS);
     let mut copy = store.clone();
@@ -131,12 +131,22 @@ fn form() {
             assert!(black_box(&store).well_formed());
         }
     });
-    let (copied, checked) = (nanoseconds(copied, TIMES), nanoseconds(checked, TIMES));
     println!();
     println!("| work on a full store of {RECORDS} records | ns | copies |");
     println!("|---|---|---|");
-    println!("| a plain copy of its {} words | {copied:.0} | 1 |", store.words.len());
-    println!("| the form check (target: within 10 copies) | {checked:.0} | {:.1} |", checked / copied);
+    let row = |name: &str, time| println!("| {name} | {:.0} | {:.1} |", nanoseconds(time, TIMES), time.as_secs_f64() / copied.as_secs_f64());
+    row(&format!("a plain copy of its {} words", store.words.len()), copied);
+    row("the form check (target: within 10 copies)", checked);
+    for many in [1, 8, yubtomiq::MOST_TRIAL_PRICES] {
+        let prices = stops::ladder(many);
+        let hits = copy.ladder(&prices);
+        let tried = median(|| (), |()| {
+            for _ in 0..TIMES {
+                assert_eq!(copy.ladder(black_box(&prices)), hits);
+            }
+        });
+        row(&format!("a ladder, number of prices: {many}; elections: {hits} of {}", many * RECORDS), tried);
+    }
 }
 
 fn main() {
@@ -152,5 +162,5 @@ fn main() {
     selected("one holder of seven", Selector::Holder(stops::holder(3)));
     selected("one side", Selector::Side(Side::Sell));
     selected("every price", Selector::Range(0, u64::MAX));
-    form();
+    reading();
 }

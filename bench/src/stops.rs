@@ -72,6 +72,11 @@ pub fn full(n: u64) -> Vec<Stop> {
     (0..n).map(one).collect()
 }
 
+/// Prices across the stops of a full store, those of the buys and those of the sells in turn.
+pub fn ladder(many: usize) -> Vec<u64> {
+    (0..many as u64).map(|k| if k % 2 == 0 { BASE + 1_060 - 2 * k } else { BASE - 1_060 + 2 * k }).collect()
+}
+
 /// The published book with these stops, admitted in turn.
 pub fn book_of(stops: &[Stop]) -> Desk {
     let settings = Settings { tick: 0, kill: false, collar: 5, namespace: Uuid::from_bytes([0; 16]), last_trade: None };
