@@ -14,6 +14,7 @@ use Rattle.pricelevel.specs.declared.Price.{Price}
 use Rattle.stop_terms.specs.Terms.{electedAt}
 use Rattle.stop_terms.specs.declared.StopTerms.{StopTerms}
 use Rattle.book.specs.Ladder.{electingFrom, bitsAt, ladderEntry, bitSet}
+use Rattle.book.specs.Sizes.{mostTrialPrices, noPlace}
 
 abbrev pub asBit : Bool → ℕ
 asBit b = cond b 1 0
@@ -86,7 +87,8 @@ module _ (t : StopTerms) where
       (λ e. rw (e, rw e at (word-odd p ps)) (omega arith))
       (λ e. rw (e, rw e at (word-odd p ps), word-half p ps, end, ih) (omega arith))
 
-  first-place : (ps : List Price) → length ps ≤ 64 → getD (electingFrom 0 t ps) 0 64 ≡ trailingZeros 64 (wordFrom ps)
+  first-place : (ps : List Price) → length ps ≤ mostTrialPrices
+      → getD (electingFrom 0 t ps) 0 noPlace ≡ trailingZeros 64 (wordFrom ps)
   first-place ps h = first-from 0 64 ps h ∙ zero-add (trailingZeros 64 (wordFrom ps))
 
   -- a bit says whether its price elects; beyond the prices none is set
@@ -133,7 +135,7 @@ module _ (t : StopTerms) (ps : List Price) where
   entry-beyond j h = rw (bits-word t ps) (bit-beyond t j ps h)
 
   -- the count is that of the ones of the word, the place that of the zeros below the lowest of them
-  pub entry-counts : length ps ≤ 64
+  pub entry-counts : length ps ≤ mostTrialPrices
       → (ladderEntry ps t .count ≡ ones (ladderEntry ps t .word))
       × (ladderEntry ps t .first ≡ trailingZeros 64 (ladderEntry ps t .word))
   unfolding ladderEntry

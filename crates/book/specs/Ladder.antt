@@ -15,7 +15,7 @@ use Rattle.stop_terms.specs.declared.StopTerms.{StopTerms}
 use Rattle.book.specs.Book.{entries}
 use Rattle.book.specs.BySequence.{bySequence}
 use Rattle.book.specs.Calls.{pendingIn}
-use Rattle.book.specs.Sizes.{mostTrialPrices}
+use Rattle.book.specs.Sizes.{mostTrialPrices, noPlace}
 use Rattle.book.specs.Words.{bookOf, wellFormed}
 use Rattle.book.specs.declared.Elected.{Elected}
 use Rattle.book.specs.declared.StopEntry.{StopEntry}
@@ -33,7 +33,7 @@ unfoldable pub bitsAt : List ℕ → ℕ
 bitsAt [] = 0
 bitsAt (j ∷ l) = 2 ^ j + bitsAt l
 
--- the word, how many prices elect the stop, and the place of the first that does, or 64
+-- the word, how many prices elect the stop, and the place of the first that does, or `noPlace`
 pub record LadderEntry : Type 0 where
   pub word : ℕ
   pub count : ℕ
@@ -42,7 +42,7 @@ pub record LadderEntry : Type 0 where
 unfoldable pub ladderEntry : List Price → StopTerms → LadderEntry
 ladderEntry prices t =
     let l : List ℕ = electingFrom 0 t prices in
-    record { word = bitsAt l; count = length l; first = getD l 0 64 }
+    record { word = bitsAt l; count = length l; first = getD l 0 noPlace }
 
 unfoldable pub ladderWords : LadderEntry → List ℕ
 ladderWords e = e .word ∷ e .count ∷ e .first ∷ []

@@ -41,9 +41,13 @@ pub record IsData (k : ℕ) : Type 0 where
 abbrev pub mostPrices : ℕ
 mostPrices = 4096
 
--- the most trial prices of a ladder: the bits of a word. Document 02, Three
+-- the most trial prices of a ladder: the bits of a word; and the place that is given where none of them elects.
+-- Document 02, Three
 abbrev pub mostTrialPrices : ℕ
 mostTrialPrices = 64
+
+abbrev pub noPlace : ℕ
+noPlace = 64
 
 -- the words of an entry: of a script, of a list of the elected, of a list of the moved
 abbrev pub scriptEntryLength : ℕ
