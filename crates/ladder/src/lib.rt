@@ -1,5 +1,5 @@
-// The ladder of trial prices: for each pending stop, by rising sequence, which of them elect it. Each pending record is
-// read once, and the prices are gone through for it; the store is only read.
+// The ladder of trial prices: for each pending stop, by rising sequence, which of them elect it. Once the records are in
+// that order, the terms of each are read once, and the prices are gone through for it; the store is only read.
 //
 //     entry: word, whose bit j says that price j elects the stop | how many do | place of the first, or 64
 use book::LadderWords;
