@@ -1,6 +1,6 @@
 -- The calls on the store: layout, clear, find, admission, changes, cancel and totals. Document 01, The store;
 -- Admission, change, cancel; The questions a call goes through.
-use Prim.Native.Nat.{ℕ, _+_, _-_, _/_, _%_, _^_}
+use Prim.Native.Nat.{ℕ, _+_, _-_, _^_}
 use mathlib.Core.Bool.{Bool, true, false, not, cond, _&&_, _||_}
 use mathlib.Core.List.{List, [], _∷_, _++_}
 use mathlib.Core.Option.{Option, none, some}
@@ -9,6 +9,7 @@ use lib.ListN.{length, getD, set, drop, replicate}
 use Rattle.error.specs.Answer.{Answer, refused, accepted}
 use Rattle.pricelevel.specs.Identity.{sameId}
 use Rattle.pricelevel.specs.Tick.{onTick}
+use Rattle.pricelevel.specs.TwoWords.{twoWords}
 use Rattle.pricelevel.specs.declared.Holder.{Holder}
 use Rattle.pricelevel.specs.declared.Id.{Id}
 use Rattle.pricelevel.specs.declared.Price.{Price}
@@ -31,7 +32,6 @@ use Rattle.book.specs.declared.OrderUpdate.the-variants.{UpdateQuantity,
 use Rattle.book.specs.declared.PrintPath.{PrintPath}
 use Rattle.book.specs.declared.StopEntry.{StopEntry}
 use Rattle.book.specs.declared.Totals.{Totals}
-use Rattle.book.specs.declared.TwoWords.{TwoWords}
 
 -- what a call on the store answers, and every word after it
 pub record StoreOutcome (A : Type 0) : Type 0 where
@@ -261,10 +261,6 @@ quantityOf (some t) = t .quantity .0
 unfoldable pub total : Side → List Slot → ℕ
 total side [] = 0
 total side (s ∷ ss) = quantityOf (pendingOn side s) + total side ss
-
--- a sum as two words
-unfoldable pub twoWords : ℕ → TwoWords
-twoWords n = record { high = n / 2 ^ 64; low = n % 2 ^ 64 }
 
 unfoldable pub totalsOf : List Slot → Totals
 totalsOf ss = record { sell = twoWords (total Sell ss); buy = twoWords (total Buy ss) }

@@ -7,6 +7,7 @@ use pricelevel::Price;
 use pricelevel::Quantity;
 use pricelevel::Seq;
 use pricelevel::Side;
+use pricelevel::TwoWords;
 use stop_protection::Limit;
 use stop_protection::Protection;
 use stop_terms::StopTerms;
@@ -183,12 +184,6 @@ pub enum ListAnswer {
 pub struct Cleared {
     pub answer: LayoutAnswer,
     pub path: PrintPath,
-}
-
-// A sum as two words.
-pub struct TwoWords {
-    pub high: u64,
-    pub low: u64,
 }
 
 // The pending quantity of each side.

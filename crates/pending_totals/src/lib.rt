@@ -1,33 +1,27 @@
 // The pending quantity of each side, in two words, as a sum of that many words may need more than one.
 use book::Totals;
-use book::TwoWords;
 use pricelevel::Side;
+use pricelevel::TwoWords;
 use records::word;
 use stored_stops::side_from;
 ghost use mathlib.Core.Path.{_≡_};
 ghost use Prim.Native.Nat.{_+_, _-_, _≤_, _<_, _^_};
 ghost use Rattle.book.specs.Book.{pendingOn};
-ghost use Rattle.book.specs.Store.{quantityOf, total, twoWords, totalsOf};
+ghost use Rattle.book.specs.Store.{quantityOf, total, totalsOf};
 ghost use Rattle.book.specs.Words.{slotAt, slotsAt};
 ghost use Rattle.chains.specs.Records.{Room, Record};
-ghost use Rattle.store_words.specs.Sums.{amount};
+ghost use Rattle.pricelevel.specs.TwoWords.{numberOf, twoWords};
 
 // The sum with x added to it.
 fn plus(sum: TwoWords, x: u64) -> TwoWords
     requires { ⌜ sum .high < 2 ^ 64 - 1 ⌝ }
-    ensures { λ r. ⌜ amount r ≡ amount sum + x ⌝ }
+    ensures { λ r. ⌜ numberOf r ≡ numberOf sum + x ⌝ }
     ensures { λ r. ⌜ (r .high ≤ sum .high + 1) × (r .low < 2 ^ 64) ⌝ }
 {
-    let space = u64::MAX - sum.low;
-    if x <= space {
-        return TwoWords {
-            high: sum.high,
-            low: sum.low + x,
-        };
-    }
+    let low = TwoWords::sum(sum.low, x);
     TwoWords {
-        high: sum.high + 1,
-        low: x - space - 1,
+        high: sum.high + low.high,
+        low: low.low,
     }
 }
 

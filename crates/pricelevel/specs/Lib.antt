@@ -3,3 +3,4 @@ pub mod Identity
 pub mod Price
 pub mod Side
 pub mod Tick
+pub mod TwoWords

@@ -1,10 +1,13 @@
 // The value types that orderbook-rs takes from its crate pricelevel: prices, quantities, sides, identities and holders, at
-// 64 bits; and the admission sequence, which document 01 makes a kind of number of its own.
+// 64 bits; the admission sequence, which document 01 makes a kind of number of its own; and two words for what may pass
+// 64 bits.
 ghost use mathlib.Core.Path.{_≡_};
+ghost use Prim.Native.Nat.{_+_, _<_, _^_};
 ghost use Rattle.pricelevel.specs.Holder.{sameHolder};
 ghost use Rattle.pricelevel.specs.Identity.{kindNumber, sameId};
 ghost use Rattle.pricelevel.specs.Side.{sideNumber};
 ghost use Rattle.pricelevel.specs.Tick.{onTick};
+ghost use Rattle.pricelevel.specs.TwoWords.{numberOf};
 
 // A price, in price units.
 pub struct Price(pub u64);
@@ -95,6 +98,32 @@ impl Holder {
             return false;
         }
         self.3 == other.3
+    }
+}
+
+// A number of up to 128 bits as two words, high * 2^64 + low: where the Rust has a u128 that may pass 64 bits.
+pub struct TwoWords {
+    pub high: u64,
+    pub low: u64,
+}
+
+impl TwoWords {
+    // The sum of two words, which carries at most 1 into the high one.
+    pub fn sum(a: u64, b: u64) -> TwoWords
+        ensures { λ r. ⌜ numberOf r ≡ a + b ⌝ }
+        ensures { λ r. ⌜ r .low < 2 ^ 64 ⌝ }
+    {
+        let space = u64::MAX - b;
+        if a <= space {
+            return TwoWords {
+                high: 0,
+                low: a + b,
+            };
+        }
+        TwoWords {
+            high: 1,
+            low: a - space - 1,
+        }
     }
 }
 

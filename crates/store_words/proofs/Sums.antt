@@ -6,17 +6,17 @@ use native.Mathlib.Numerals.{add-one}
 use native.Mathlib.Omega.{arith}
 use borrow.Author.Tests.{eqb-true}
 use borrow.Table.Steps.{cases}
-use lib.Arith.{digits-div, digits-mod}
 use lib.Dec.{eqb}
+use Rattle.pricelevel.proofs.Numbers.{twoWords-number}
 use Rattle.pricelevel.specs.Side.{sideNumber}
+use Rattle.pricelevel.specs.TwoWords.{numberOf, twoWords}
 use Rattle.pricelevel.specs.declared.Side.{Side}
 use Rattle.pricelevel.specs.declared.Side.the-variants.{Buy, Sell}
+use Rattle.pricelevel.specs.declared.TwoWords.{TwoWords}
 use Rattle.book.specs.Book.{ofSide, pendingOn}
-use Rattle.book.specs.Store.{quantityOf, total, twoWords}
+use Rattle.book.specs.Store.{quantityOf, total}
 use Rattle.book.specs.Words.{recordWord, sideFrom, entryAt, slotAt, slotsAt}
 use Rattle.book.specs.declared.StopEntry.{StopEntry}
-use Rattle.store_words.specs.Sums.{amount}
-use Rattle.book.specs.declared.TwoWords.{TwoWords}
 
 ------------------------------------------------------------------------
 -- One record
@@ -57,7 +57,7 @@ pub record Summed (side : Side) (w : List ℕ) (n i : ℕ) (sum : TwoWords) : Ty
   pub most : i ≤ n + 1
   pub small : sum .high < i
   pub low : sum .low < 2 ^ 64
-  pub whole : amount sum + total side (slotsAt w i (n + 1 - i)) ≡ total side (slotsAt w 1 n)
+  pub whole : numberOf sum + total side (slotsAt w i (n + 1 - i)) ≡ total side (slotsAt w 1 n)
 
 module _ (side : Side) (w : List ℕ) (n : ℕ) where
   pub summed-none : Summed side w n 1 (record { high = 0; low = 0 })
@@ -79,7 +79,7 @@ module _ (side : Side) (w : List ℕ) (n : ℕ) where
 
   pub summed-more : (i : ℕ) (sum more : TwoWords) (x : ℕ) → i ≤ n → Summed side w n i sum
       → x ≡ quantityOf (pendingOn side (slotAt w i))
-      → amount more ≡ amount sum + x → (more .high ≤ sum .high + 1) × (more .low < 2 ^ 64)
+      → numberOf more ≡ numberOf sum + x → (more .high ≤ sum .high + 1) × (more .low < 2 ^ 64)
       → Summed side w n (i + 1) more
   summed-more i sum more x h s q e f = record {
     least = omega arith;
@@ -91,9 +91,8 @@ module _ (side : Side) (w : List ℕ) (n : ℕ) where
 
   pub summed-all : (i : ℕ) (sum : TwoWords) → n < i → Summed side w n i sum
       → sum ≡ twoWords (total side (slotsAt w 1 n))
-  unfolding twoWords total slotsAt
+  unfolding total slotsAt
   summed-all i sum h s =
       let e : n + 1 - i ≡ 0 = omega (arith, s .most) in
-      let whole : amount sum + 0 ≡ total side (slotsAt w 1 n) = rw e at (s .whole) in
-      let t : total side (slotsAt w 1 n) ≡ amount sum = omega (arith, whole) in
-      rw (t, digits-div (sum .high) (s .low), digits-mod (sum .high) (s .low))
+      let whole : numberOf sum + 0 ≡ total side (slotsAt w 1 n) = rw e at (s .whole) in
+      twoWords-number sum _ (s .low) (omega (arith, whole))
