@@ -68,7 +68,12 @@ def previewed(terms, price):
 def limit(collar, side, stop):
     if collar == 0:
         return None
-    return max(stop - collar, 0) if side == SELL else min(stop + collar, TOP)
+    return max(stop - collar, 0) if side == SELL else stop + collar
+
+
+def limit_words(at):
+    """1, and the high and low word of a limit; zeros of none."""
+    return [0, 0, 0] if at is None else [1, at >> 64, at & TOP]
 
 
 def check_collar(collar):
@@ -436,7 +441,7 @@ def points(book, settings, prev, prices):
     for stop, trigger in elected:
         at = limit(collar, stop.terms[0], stop.terms[1])
         order = child(namespace, stop.identity)
-        entries.append([*stop.identity, *stop.terms[0:2], stop.quantity, stop.seq, trigger, 0 if at is None else 1, at or 0, *order[1:],
+        entries.append([*stop.identity, *stop.terms[0:2], stop.quantity, stop.seq, trigger, *limit_words(at), *order[1:],
                         1 if book.find(order) else 0])
     return moved, entries
 

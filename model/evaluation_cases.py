@@ -33,6 +33,8 @@ STORES = {
     "kept": (2, [sell(1, 95)]),
     "sells": (2, [sell(1, 95), sell(2, 3, 100, 100)]),
     "buys": (2, [buy(1, 105, 100, 5), buy(2, TOP, 100, 5)]),
+    "tops": (4, [buy(1, TOP - 4, 100, 5), buy(2, TOP - 1, 100, 5), buy(3, TOP, 100, 5)]),
+    "top_sell": (2, [sell(1, TOP, TOP, 5)]),
     "child": (2, [sell(7, 98), child_sell(7, 50)]),
     "three": (4, [sell(1, 98), sell(2, 95), sell(3, 90)]),
     "three_child": (4, [sell(1, 98), sell(2, 95), sell(3, 90), child_sell(1, 50)]),
@@ -74,8 +76,8 @@ def pass_(name, prev, first, last, script, of=PLAIN):
     return store(name) + [row([f"pass {settings(of)} {maybe(prev)} {first} {last}", *script])]
 
 
-def run(name, path, trade, script):
-    return store(name) + [f"path {row(path)}", row([f"run {settings(PLAIN)} {maybe(trade)}", *script])]
+def run(name, path, trade, script, of=PLAIN):
+    return store(name) + [f"path {row(path)}", row([f"run {settings(of)} {maybe(trade)}", *script])]
 
 
 def lists(elected, moved, lines):
@@ -117,6 +119,13 @@ def segments():
     yield from segment("buys", None, TOP, TOP, (0, 5))
     yield from walk("sells", None, [95, 3], (0, 5))
     yield from segment("sells", None, 3, 3)
+    yield "# Buys 2^64 - 5, 2^64 - 2 and 2^64 - 1, with collars of 1, 4 and 2^64 - 1: limits below the top, at it and above; a sell 2^64 - 1"
+    for collar in 1, 4, TOP:
+        yield from segment("tops", None, TOP - 5, TOP, (0, collar))
+        yield from walk("tops", None, [TOP - 5, TOP - 3, TOP - 1, TOP], (0, collar))
+        yield from segment("top_sell", None, TOP, TOP, (0, collar))
+    yield from pass_("tops", None, TOP - 4, TOP - 4, [1, 1, TOP - 4, TOP - 1, TOP], (0, 4))
+    yield from run("tops", (1, 0, 0, TOP - 4), TOP, [], (0, 1))
     yield ""
     yield "# The kill switch on, then off, with a sell (95, 100, 10): on, it trails and is not elected"
     yield from segment("kept", None, 110, 90, (1, 0))

@@ -77,8 +77,7 @@ class Session:
         if name == "draw":
             return " | ".join(drawn(terms, n[4:]))
         if name == "limit":
-            at = book.limit(*n)
-            return told(*known(n[1] <= 1, [0 if at is None else 1, at or 0]), 2)
+            return told(*known(n[1] <= 1, book.limit_words(book.limit(*n))), 3)
         if name == "collar":
             return str(book.check_collar(n[0]))
         if name == "collar_tick":

@@ -5,8 +5,8 @@
 
 The things: every call, with every refusal and on either side; stops, prints and sequences at both ends of their range; equal stops and equal
 watermarks among the stops that trail or are elected; a price before that equals the first print; the kill switch; children that print again
-and elect; child identities that are pending; limits above 2^64 - 1; of each selector nothing, something and everything collected, stops at
-either end of a range, lowest above highest, holders that differ in one word."""
+and elect; child identities that are pending; limits at 2^64 - 1, at 2^64 and above, and stops and collars at the top; of each selector
+nothing, something and everything collected, stops at either end of a range, lowest above highest, holders that differ in one word."""
 import os
 import subprocess
 import sys
@@ -59,6 +59,14 @@ def of_selector(name, selector, stops, collected):
     return things
 
 
+def of_limit(name, side, stop, collar, high, low):
+    """Whether a limit has a high word, is the highest of one word or the lowest of two; stop and collar at the top."""
+    things = {f"{name} limit of {side} high {high}"}
+    if low == (0 if high else TOP):
+        things.add(f"{name} limit of {side} at {high} {low}")
+    return things | {f"{name} limit of {side} at the top, collar {collar}" for end in (1, TOP) if stop == TOP and collar == end}
+
+
 def of_evaluation(name, given, wanted, stops):
     if name == "run":
         given.take(4)
@@ -80,7 +88,10 @@ def of_evaluation(name, given, wanted, stops):
         things.add(f"{name} prev {prints[0]} equals first {prints[0] and prints[1] == prints[2]}")
     if used and any(e[7] not in prints for e in elected):
         things.add(f"{name} children elect")
-    things |= {f"{name} child pending" for e in elected if e[14]} | {f"{name} limit above" for e in elected if e[9]}
+    things |= {f"{name} child pending" for e in elected if e[14]}
+    for e in elected:
+        if e[8]:
+            things |= of_limit(name, e[3], e[4], collar, e[9], e[10])
     return things | {f"{name} entries used {min(used, 3)} of {min(script, 3)}"}
 
 
@@ -90,7 +101,8 @@ def things_of(line):
     given, wanted = Words([int(w) for w in words]), Words([int(w) for w in answers.split(" ")])
     if name not in ("admit", "update", "cancel", "find", "collect", "mass_cancel", "clear", "segment", "pass", "run"):
         # a call on values: its numbers at the ends, and the beginning of its answer
-        return {f"{name} = {wanted.words[0] if wanted.words[0] < 20 else ''}"} | {t for n in given.words for t in ends(name, n)}
+        limits = of_limit(name, given.words[1], given.words[2], given.words[0], *wanted.words) if name == "limit_for" else set()
+        return limits | {f"{name} = {wanted.words[0] if wanted.words[0] < 20 else ''}"} | {t for n in given.words for t in ends(name, n)}
     _, following, count = given.take(3)
     stops = rows(given, count, STOP)
     things = of_stops(name, stops) | {f"{name} of {min(count, 2)}", f"{name} next {following >> 62}"}

@@ -4,7 +4,7 @@
     oracle/replay.py FOLDER < LINES        # writes FOLDER/stdin and FOLDER/stdout
 
 What the session prints is taken from the Rust's answers, and from the line itself where the Rust does not tell it: the side and trail of
-trailed terms, which stay, and the path after a run in which a child printed (`kept` 0). A buy limit above 2^64 - 1 is capped."""
+trailed terms, which stay, and the path after a run in which a child printed (`kept` 0)."""
 import os
 import sys
 
@@ -38,16 +38,12 @@ def row(words):
     return " ".join(map(str, words))
 
 
-def capped(high, low):
-    return TOP if high else low
-
-
 def elected(wanted, count):
-    """The entries of a list: those of the line without the kind of the child's identity, and with one word for the limit."""
+    """The entries of a list: those of the line without the kind of the child's identity."""
     line = ""
     for k in range(count):
         e = wanted.take(ELECTED)
-        line += f", elected {k}: {row(e[:8])} {e[8]} {capped(e[9], e[10])} {row(e[12:15])}"
+        line += f", elected {k}: {row(e[:11] + e[12:])}"
     return line
 
 
@@ -99,7 +95,7 @@ def by_values(name, given, wanted):
         side, stop, mark, trail, price = given.take(5)
         return [(f"preview {side} {stop} {trail} {mark} {price}", answer(0, wanted.take(3)))]
     if name == "limit_for":
-        return [(f"limit {row(given.take(3))}", answer(0, [1, capped(*wanted.take(2))]))]
+        return [(f"limit {row(given.take(3))}", answer(0, [1, *wanted.take(2)]))]
     if name == "child":
         return [(f"child {row(given.take(5))}", answer(0, wanted.take(3)))]
     if name == "collar":

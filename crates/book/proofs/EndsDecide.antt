@@ -76,8 +76,8 @@ module _ (w : List ℕ) (formed : wellFormed w ≡ true) (elected : ℕ) (room :
 -- Demand 3. For every well-formed store, every run of 1 to 4,096 prices that never falls or never rises, prev or none,
 -- collar or none, any namespace, kill switch on or off, and any lent lists as long as the calls demand: neither call is
 -- refused; both answer the same number elected; the elected entries are alike, entry by entry, in identity, side, stop,
--- quantity, sequence, limit, child identity and whether that child is pending; and the two stores are equal in every
--- word.
+-- quantity, sequence, both words of the limit, child identity and whether that child is pending; and the two stores are
+-- equal in every word.
 pub ends-decide : (s : Settings) (prev : LastPrice) (d : Side) (first : Price) (rest : List Price) (w : List ℕ)
     (ends moved run : ℕ)
     → wellFormed w ≡ true → Monotone d first rest → length (first ∷ rest) ≤ mostPrices

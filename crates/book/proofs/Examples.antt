@@ -1,5 +1,6 @@
--- Document 01's examples about stores and runs, in one table that the checker computes.
-use Prim.Native.Nat.{ℕ}
+-- Document 01's examples about stores and runs, and limits at the top of document 02, Four, in one table that the checker
+-- computes.
+use Prim.Native.Nat.{ℕ, _-_, _^_}
 use mathlib.Core.Path.{_≡_, refl}
 use mathlib.Core.Bool.{false}
 use mathlib.Core.List.{List, [], _∷_, _++_, map}
@@ -9,6 +10,7 @@ use Rattle.pricelevel.specs.Holder.{holderOf}
 use Rattle.pricelevel.specs.Identity.{kindNumber, sameId}
 use Rattle.pricelevel.specs.Side.{sideNumber}
 use Rattle.pricelevel.specs.Tick.{onTick}
+use Rattle.pricelevel.specs.TwoWords.{twoWords}
 use Rattle.pricelevel.specs.declared.Holder.{Holder}
 use Rattle.pricelevel.specs.declared.Id.{Id}
 use Rattle.pricelevel.specs.declared.IdKind.the-variants as kind
@@ -16,6 +18,7 @@ use Rattle.pricelevel.specs.declared.Price.{Price}
 use Rattle.pricelevel.specs.declared.Seq.{Seq}
 use Rattle.pricelevel.specs.declared.Side.{Side}
 use Rattle.pricelevel.specs.declared.Side.the-variants.{Sell}
+use Rattle.stop_protection.specs.Collar.{limitFor, limitPrice, limitUnder, limitPresent, limitHigh, limitLow, limitWords}
 use Rattle.stop_protection.specs.declared.Protection.the-variants as protection
 use Rattle.stop_terms.specs.Terms.{behind, candidate, tightened, ratcheted, trailedAt, elects, electedAt, beyond, inconsistencyOf, inconsistencyNumber}
 use Rattle.stop_terms.specs.declared.StopTerms.{StopTerms}
@@ -49,6 +52,14 @@ terms side stop watermark trail = record { side = side; stop = price stop; water
 plain : Settings
 plain = record { kill = false; protection = protection.None; namespace = record { high = 0; low = 0 } }
 
+-- the same with a collar of 5
+collared : Settings
+collared = record {
+  kill = false;
+  protection = protection.Collar (record { collar = 5 });
+  namespace = record { high = 0; low = 0 };
+}
+
 closedPath : PrintPath
 closedPath = record { «open» = false; «has_prev» = false; prev = price 0; first = price 0 }
 
@@ -80,6 +91,10 @@ line : Elected → List ℕ
 line e =
     kindNumber (e .id .kind) ∷ e .id .high ∷ e .id .low ∷ sideNumber (e .side) ∷ e .stop .0 ∷ e .quantity .0
     ∷ e .seq .0 ∷ e .trigger .0 ∷ []
+
+-- limit present, high, low
+limitLine : Elected → List ℕ
+limitLine e = limitWords (e .limit)
 
 movedLine : Moved → List ℕ
 movedLine m = m .id .low ∷ m .stop .0 ∷ []
@@ -132,6 +147,23 @@ tiesStore =
     ∷ 2 ∷ 0 ∷ 3 ∷ 0 ∷ 110 ∷ 100 ∷ 10 ∷ 1 ∷ 2 ∷ 4 ∷ 0 ∷ 0 ∷ 0 ∷ 0 ∷ 0
     ∷ 2 ∷ 0 ∷ 4 ∷ 0 ∷ 110 ∷ 100 ∷ 10 ∷ 1 ∷ 3 ∷ 0 ∷ 3 ∷ 0 ∷ 0 ∷ 0 ∷ 0
     ∷ []
+
+-- a buy (2^64 − 2, 2^64 − 10, 8)
+topStore : List ℕ
+topStore =
+    1 ∷ 1 ∷ 1 ∷ 0 ∷ 0 ∷ 0 ∷ 1 ∷ 1 ∷ 0
+    ∷ 2 ∷ 0 ∷ 7 ∷ 0 ∷ (2 ^ 64 - 2) ∷ (2 ^ 64 - 10) ∷ 8 ∷ 1 ∷ 0 ∷ 0 ∷ 0 ∷ 0 ∷ 0 ∷ 0 ∷ 0
+    ∷ []
+
+-- a sell (3, 9, 6)
+lowStore : List ℕ
+lowStore =
+    1 ∷ 1 ∷ 1 ∷ 0 ∷ 1 ∷ 1 ∷ 0 ∷ 0 ∷ 0
+    ∷ 2 ∷ 0 ∷ 7 ∷ 1 ∷ 3 ∷ 9 ∷ 6 ∷ 1 ∷ 0 ∷ 0 ∷ 0 ∷ 0 ∷ 0 ∷ 0 ∷ 0
+    ∷ []
+
+topRun : List Price
+topRun = price (2 ^ 64 - 9) ∷ price (2 ^ 64 - 5) ∷ price (2 ^ 64 - 2) ∷ []
 
 ------------------------------------------------------------------------
 -- The table
@@ -188,6 +220,13 @@ table =
     ∷ example (map line (walkOver tiesStore (90 ∷ []) .elected))
     ((2 ∷ 0 ∷ 1 ∷ 1 ∷ 90 ∷ 1 ∷ 0 ∷ 90 ∷ []) ∷ (2 ∷ 0 ∷ 2 ∷ 1 ∷ 90 ∷ 1 ∷ 1 ∷ 90 ∷ []) ∷ [])
     ∷ example (map movedLine (segmentOver tiesStore last.None 95 95 .moved)) ((4 ∷ 105 ∷ []) ∷ (3 ∷ 105 ∷ []) ∷ [])
+    ∷ example (map limitLine (segmentCall collared (record {
+      prev = last.None;
+      first = price (2 ^ 64 - 9);
+      last = price (2 ^ 64 - 2);
+    }) topStore 1 2 .elected)) ((1 ∷ 1 ∷ 3 ∷ []) ∷ [])
+    ∷ example (map limitLine (walkCall collared last.None topRun topStore 1 .elected)) ((1 ∷ 1 ∷ 3 ∷ []) ∷ [])
+    ∷ example (map limitLine (walkCall collared last.None (price 4 ∷ price 3 ∷ []) lowStore 1 .elected)) ((1 ∷ 0 ∷ 0 ∷ []) ∷ [])
     ∷ []
 
 found : List (List (List ℕ))
@@ -197,5 +236,5 @@ expected : List (List (List ℕ))
 expected = map (λ e. e .expected) table
 
 examples : found ≡ expected
-unfolding price sequential terms plain closedPath admitFor admitInto segmentOver walkOver toldSeq toldCounts line movedLine segmentLines walkLines admissionLines laidOut forecastStore turningStore bothStore tiesStore forecastLeft sellLine buyLine example table found expected before lexicographic withIndex gather insertBy sortBy ofSide pendingOn chain indices pendingCount headOr0 isNone rising every sameList nextIn chainIndices header recordWords dataWords afterByStop afterByWatermark withLinks recordsWords layout cell recordWord kindOf sideFrom entryAt slotAt slotsAt freeFrom bookOf consistent soundStop differs allDiffer vacantIndices valid areWords wellFormed sameId onTick behind beyond inconsistencyOf inconsistencyNumber candidate tightened ratcheted trailedAt elects electedAt electedEntry electedEntries countsOf pendingIn segmentQuestions segmentCall walkQuestions walkCall trailed leaves vacatedIf settled leavingOn leaver electedOn electedBy freed changedOn mover movedEntry movedOn movedBy fillAt point sellsFirst fallsTo andThen walkFrom segment lastOf walk firstNo decide stored storedBook emptyBook layOut named lookup isSome isPending withinWatermark notTriggered admissionQuestions admitted newEntry pathAfterAdmission admit closed
+unfolding price sequential terms plain collared closedPath admitFor admitInto segmentOver walkOver toldSeq toldCounts line limitLine movedLine segmentLines walkLines admissionLines laidOut forecastStore turningStore bothStore tiesStore topStore lowStore topRun forecastLeft sellLine buyLine example table found expected before lexicographic withIndex gather insertBy sortBy ofSide pendingOn chain indices pendingCount headOr0 isNone rising every sameList nextIn chainIndices header recordWords dataWords afterByStop afterByWatermark withLinks recordsWords layout cell recordWord kindOf sideFrom entryAt slotAt slotsAt freeFrom bookOf consistent soundStop differs allDiffer vacantIndices valid areWords wellFormed sameId onTick behind beyond inconsistencyOf inconsistencyNumber candidate tightened ratcheted trailedAt elects electedAt electedEntry limitUnder limitFor limitPrice twoWords limitPresent limitHigh limitLow electedEntries countsOf pendingIn segmentQuestions segmentCall walkQuestions walkCall trailed leaves vacatedIf settled leavingOn leaver electedOn electedBy freed changedOn mover movedEntry movedOn movedBy fillAt point sellsFirst fallsTo andThen walkFrom segment lastOf walk firstNo decide stored storedBook emptyBook layOut named lookup isSome isPending withinWatermark notTriggered admissionQuestions admitted newEntry pathAfterAdmission admit closed
 examples = refl

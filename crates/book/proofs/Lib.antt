@@ -10,6 +10,7 @@ pub mod Collected
 pub mod ChangedBook
 pub mod PointCounts
 pub mod Differences
+pub mod ElectedLimits
 pub mod EndsDecide
 pub mod Evaluated
 pub mod Walks

@@ -25,7 +25,7 @@ abbrev pub Monotone : Side → Price → List Price → Type 0
 Monotone d p [] = Unit {0}
 Monotone d p (q ∷ qs) = Goes d (p .0) (q .0) × Monotone d q qs
 
--- what segment and walk must agree in: all of an elected entry but its trigger price
+-- what segment and walk must agree in: all of an elected entry but its trigger price; a limit has both of its words
 pub record Likeness : Type 0 where
   pub id : Id
   pub side : Side

@@ -1,6 +1,6 @@
 -- The sizes of a store, of its records and of the entries of lists, in words: document 01, The store; One point, one
 -- segment, one pass. A record has the length of document 02, One.
-use Prim.Native.Nat.{ℕ, _+_, _*_, _<_}
+use Prim.Native.Nat.{ℕ, _+_, _-_, _*_, _<_}
 use mathlib.Core.Logic.{_≢_}
 
 -- header words, words of a record, most records
@@ -54,7 +54,11 @@ abbrev pub scriptEntryLength : ℕ
 scriptEntryLength = 5
 
 abbrev pub electedLength : ℕ
-electedLength = 13
+electedLength = 14
+
+-- the place of an elected entry's last word: whether its child identity is pending
+abbrev pub pendingPlace : ℕ
+pendingPlace = electedLength - 1
 
 abbrev pub movedLength : ℕ
 movedLength = 4

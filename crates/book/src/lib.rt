@@ -34,8 +34,11 @@ pub const MOST_TRIAL_PRICES: usize = 64;
 
 pub const SCRIPT_ENTRY_WORDS: usize = 5;
 
-// The words of an entry of a list: of the elected, and of the moved, of which a segment lists at most two a stop.
-pub const ELECTED_WORDS: usize = 13;
+// The words of an entry of a list: of the elected, whose last word says whether the child is pending, and of the moved,
+// of which a segment lists at most two a stop.
+pub const ELECTED_WORDS: usize = 14;
+
+pub const PENDING_PLACE: usize = ELECTED_WORDS - 1;
 
 pub const MOVED_WORDS: usize = 4;
 

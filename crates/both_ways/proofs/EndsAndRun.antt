@@ -10,6 +10,7 @@ use Rattle.error.specs.Answer.{Answer, refused}
 use Rattle.pricelevel.specs.Identity.{kindNumber}
 use Rattle.pricelevel.specs.Side.{sideNumber}
 use Rattle.pricelevel.specs.declared.Price.{Price}
+use Rattle.stop_protection.specs.Collar.{limitPresent, limitHigh, limitLow}
 use Rattle.book.proofs.EndsDecide.{ends-decide}
 use Rattle.book.specs.Calls.{written, SegmentOutcome, segmentCall, WalkOutcome, walkCall}
 use Rattle.book.specs.declared.Counts.{Counts}
@@ -18,7 +19,7 @@ use Rattle.book.specs.Runs.{Likeness, likeness, DecidedByEnds}
 use Rattle.book.specs.declared.Elected.{Elected}
 use Rattle.book.specs.declared.LastPrice.{LastPrice}
 use Rattle.book.specs.declared.Settings.{Settings}
-use Rattle.book.specs.Entries.{electedWords, movedWords, limitPresent, limitWord}
+use Rattle.book.specs.Entries.{electedWords, movedWords}
 use Rattle.pricelevel.specs.Price.{toPrice}
 use Rattle.both_ways.specs.Ends.{endsCall, alikeWords, Comparable, Decided}
 
@@ -75,7 +76,7 @@ taken-written xs l k e = take-at xs (drop (length xs) l) k e
 likeWords : Likeness → List ℕ
 likeWords e =
     kindNumber (e .id .kind) ∷ e .id .high ∷ e .id .low ∷ sideNumber (e .side) ∷ e .stop .0 ∷ e .quantity .0 ∷ e .seq .0
-    ∷ limitPresent (e .limit) ∷ limitWord (e .limit) ∷ e .child .high ∷ e .child .low ∷ cond (e .pending) 1 0 ∷ []
+    ∷ limitPresent (e .limit) ∷ limitHigh (e .limit) ∷ limitLow (e .limit) ∷ e .child .high ∷ e .child .low ∷ cond (e .pending) 1 0 ∷ []
 
 alike-like : (e : Elected) → alikeWords (electedWords e) ≡ likeWords (likeness e)
 unfolding alikeWords electedWords likeness likeWords

@@ -10,7 +10,7 @@ use lib.Seq.{sets, length-sets}
 use Rattle.pricelevel.specs.declared.Id.{Id}
 use Rattle.pricelevel.specs.declared.IdKind.{IdKind}
 use Rattle.pricelevel.specs.declared.Side.{Side}
-use Rattle.stop_protection.specs.Collar.{limitUnder}
+use Rattle.stop_protection.specs.Collar.{limitUnder, limitWords}
 use Rattle.stop_protection.specs.declared.Limit.{Limit}
 use Rattle.stop_trigger.specs.Child.{childId}
 use Rattle.book.proofs.ReadBack.{kindOf-number, sideFrom-number}
@@ -28,7 +28,7 @@ use Rattle.pending_stops.specs.Stored.{Stored}
 use Rattle.store_words.specs.Search.{indexOr0}
 use Rattle.listing.proofs.Sets.{changed, changed-sets}
 use Rattle.listing.proofs.Walked.{stored-book}
-use Rattle.book.specs.Entries.{limitPresent, limitWord, electedWords}
+use Rattle.book.specs.Entries.{electedWords}
 use Rattle.listing.specs.ChainEntries.{fillWords, completed}
 
 ------------------------------------------------------------------------
@@ -61,16 +61,16 @@ completed-fill s b f = rw (kindOf-number (f .stop .id .kind), sideFrom-number (s
 
 -- as the code makes it of what its parts tell
 pub completed-words : (s : Settings) (b : Book) (e : List ℕ) (kind : IdKind) (side : Side) (l : Limit) (child : Id)
-    (present price pending : ℕ)
+    (words : List ℕ) (pending : ℕ)
     → kind ≡ kindOf (getD e 0 0) → side ≡ sideFrom (getD e 3 0) → l ≡ limitUnder (s .protection) side (record {
       0 = getD e 4 0;
     })
     → child ≡ childId (s .namespace) (record { kind = kind; high = getD e 1 0; low = getD e 2 0 })
-    → present ≡ limitPresent l → price ≡ limitWord l → pending ≡ cond (isPending child b) 1 0
+    → words ≡ limitWords l → pending ≡ cond (isPending child b) 1 0
     → (getD e 0 0 ∷ getD e 1 0 ∷ getD e 2 0 ∷ getD e 3 0 ∷ getD e 4 0 ∷ getD e 5 0 ∷ getD e 6 0 ∷ getD e 7 0
-    ∷ present ∷ price ∷ child .high ∷ child .low ∷ pending ∷ []) ≡ completed s b e
+    ∷ getD words 0 0 ∷ getD words 1 0 ∷ getD words 2 0 ∷ child .high ∷ child .low ∷ pending ∷ []) ≡ completed s b e
 unfolding completed
-completed-words s b e kind side l child present price pending k d m i p q z = rw (z, p, q, m, i, k, d)
+completed-words s b e kind side l child words pending k d m i p z = rw (z, p, m, i, k, d)
 
 ------------------------------------------------------------------------
 -- A run of entries

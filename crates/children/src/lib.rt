@@ -4,7 +4,6 @@ use book::ElectedWords;
 use book::Settings;
 use pricelevel::Id;
 use pricelevel::Price;
-use stop_protection::Limit;
 use stop_trigger::stop_trigger_order_id;
 use stored_stops::find_id;
 use stored_stops::kind_of;
@@ -19,32 +18,12 @@ ghost use Rattle.book.specs.Book.{Book};
 ghost use Rattle.book.specs.Calls.{electedEntry};
 ghost use Rattle.book.specs.Evaluation.{Fill};
 ghost use Rattle.book.specs.Store.{isPending};
-ghost use Rattle.book.specs.Entries.{limitPresent, limitWord, electedWords};
+ghost use Rattle.book.specs.Entries.{electedWords};
 ghost use Rattle.listing.specs.ChainEntries.{fillWords, completed};
 ghost use Rattle.pending_stops.specs.Stored.{Stored};
 
 // ---------------------------------------------------------------------
 // Their limits and child orders
-
-// 1 if there is a limit, else 0.
-fn limit_present(l: Limit) -> u64
-    ensures { λ r. ⌜ r ≡ limitPresent l ⌝ }
-{
-    match l {
-        Limit::None => 0,
-        Limit::At(_) => 1,
-    }
-}
-
-// The price of a limit, 0 for none.
-fn limit_word(l: Limit) -> u64
-    ensures { λ r. ⌜ r ≡ limitWord l ⌝ }
-{
-    match l {
-        Limit::None => 0,
-        Limit::At(price) => price.0,
-    }
-}
 
 // 1 if a stop of this identity is pending, else 0.
 fn pending_word(s: &[u64], n: u64, id: Id) -> u64
@@ -76,8 +55,7 @@ fn complete_entry(s: &[u64], n: u64, settings: Settings, list: &mut [ElectedWord
     let namespace = settings.namespace;
     let child = stop_trigger_order_id(namespace, id);
     let pending = pending_word(s, n, child);
-    let present = limit_present(limit);
-    let price = limit_word(limit);
+    let words = limit.words();
     list[at] = [
         e[0],
         e[1],
@@ -87,8 +65,9 @@ fn complete_entry(s: &[u64], n: u64, settings: Settings, list: &mut [ElectedWord
         e[5],
         e[6],
         e[7],
-        present,
-        price,
+        words[0],
+        words[1],
+        words[2],
         child.high,
         child.low,
         pending,

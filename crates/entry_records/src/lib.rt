@@ -8,6 +8,7 @@ use pricelevel::IdKind;
 use pricelevel::Price;
 use pricelevel::Quantity;
 use pricelevel::Seq;
+use pricelevel::TwoWords;
 use stop_protection::Limit;
 use stop_protection::LimitPrice;
 use stored_stops::kind_of;
@@ -18,13 +19,17 @@ ghost use mathlib.Core.Path.{_≡_};
 ghost use lib.ListN.{length, getD};
 ghost use Rattle.entry_records.specs.Records.{limitFrom, electedOf, movedOf};
 
-// A limit, by whether there is one and its price.
-pub fn limit_from(present: u64, price: u64) -> Limit
-    ensures { λ r. ⌜ r ≡ limitFrom present price ⌝ }
+// A limit, by whether there is one and its price's words.
+pub fn limit_from(present: u64, high: u64, low: u64) -> Limit
+    ensures { λ r. ⌜ r ≡ limitFrom present high low ⌝ }
 {
+    let price = LimitPrice(TwoWords {
+        high: high,
+        low: low,
+    });
     match present {
         0 => Limit::None,
-        _ => Limit::At(LimitPrice(price)),
+        _ => Limit::At(price),
     }
 }
 
@@ -45,13 +50,13 @@ pub fn elected_at(words: &[ElectedWords], at: usize) -> Elected
         quantity: Quantity(e[5]),
         seq: Seq(e[6]),
         trigger: Price(e[7]),
-        limit: limit_from(e[8], e[9]),
+        limit: limit_from(e[8], e[9], e[10]),
         child: Id {
             kind: IdKind::Uuid,
-            high: e[10],
-            low: e[11],
+            high: e[11],
+            low: e[12],
         },
-        pending: 0 < e[12],
+        pending: 0 < e[13],
     }
 }
 

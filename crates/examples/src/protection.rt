@@ -31,7 +31,7 @@ pub fn collars() {
     collar(u64::MAX);
 }
 
-// A size of 0 asks for no collar.
+// The limit's two words, high and low. A size of 0 asks for no collar.
 fn limit(side: Side, stop: u64, size: u64) {
     print::text(b"limit ");
     print::side(side);
@@ -44,7 +44,11 @@ fn limit(side: Side, stop: u64, size: u64) {
     print::text(b":");
     match protection.limit(side, Price(stop)) {
         Limit::None => print::text(b" none"),
-        Limit::At(at) => print::number(at.0),
+        Limit::At(at) => {
+            let words = at.0;
+            print::number(words.high);
+            print::number(words.low);
+        }
     }
     print::text(b"\n");
 }
@@ -54,10 +58,14 @@ pub fn limits() {
     limit(Side::Sell, 95, 100);
     limit(Side::Sell, 95, 95);
     limit(Side::Buy, 105, 5);
-    limit(Side::Buy, u64::MAX, 1);
+    limit(Side::Buy, StopProtection::HIGHEST_PRICE, 1);
     limit(Side::Buy, u64::MAX - 1, 1);
     limit(Side::Buy, 1, u64::MAX);
-    limit(Side::Buy, 0, u64::MAX);
+    limit(Side::Buy, StopProtection::LOWEST_PRICE, u64::MAX);
+    limit(Side::Buy, u64::MAX, u64::MAX);
+    limit(Side::Sell, StopProtection::HIGHEST_PRICE, 1);
+    limit(Side::Sell, u64::MAX, u64::MAX);
+    limit(Side::Sell, StopProtection::LOWEST_PRICE, 1);
     limit(Side::Sell, 95, 0);
     limit(Side::Buy, 105, 0);
 }

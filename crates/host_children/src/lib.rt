@@ -2,7 +2,6 @@
 use evaluation_words::protection_of;
 use host_words::UNKNOWN;
 use pricelevel::Price;
-use stop_protection::Limit;
 use stop_protection::NewProtection;
 use stop_protection::StopProtection;
 use stop_protection::TickCheck;
@@ -12,20 +11,11 @@ use term_words::id_words;
 use term_words::side_known;
 use uuid::Uuid;
 ghost use mathlib.Core.Path.{_≡_};
-ghost use Rattle.stop_protection.specs.Collar.{tryNew};
-ghost use Rattle.host_words.specs.Answers.{Told, number, idWords, limitWords};
+ghost use Rattle.stop_protection.specs.Collar.{tryNew, limitWords};
+ghost use Rattle.host_words.specs.Answers.{Told, number, idWords};
 ghost use Rattle.host_words.specs.ByWords.{limitByWords, checkOf, childByWords};
 
-fn limit_words(limit: Limit) -> [u64; 2]
-    ensures { λ r. ⌜ r ≡ limitWords limit ⌝ }
-{
-    match limit {
-        Limit::None => [0, 0],
-        Limit::At(price) => [1, price.0],
-    }
-}
-
-pub fn limit_price(collar: u64, side: u64, stop_price: u64, answer: &mut [u64; 2]) -> u64
+pub fn limit_price(collar: u64, side: u64, stop_price: u64, answer: &mut [u64; 3]) -> u64
     ensures { λ r. ⌜ Told limitWords (limitByWords collar side «stop_price») (now (answer .entry)) r (now (answer .exit)) ⌝ }
 {
     if !side_known(side) {
@@ -33,7 +23,7 @@ pub fn limit_price(collar: u64, side: u64, stop_price: u64, answer: &mut [u64; 2
     }
     let protection = protection_of(collar);
     let limit = protection.limit(stored_stops::side_from(side), Price(stop_price));
-    *answer = limit_words(limit);
+    *answer = limit.words();
     0
 }
 

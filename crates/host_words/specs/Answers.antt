@@ -11,8 +11,6 @@ use Rattle.pricelevel.specs.Side.{sideNumber}
 use Rattle.pricelevel.specs.declared.Id.{Id}
 use Rattle.pricelevel.specs.declared.Seq.{Seq}
 use Rattle.repricing.specs.declared.Adjustment.{Adjustment}
-use Rattle.stop_protection.specs.declared.Limit.{Limit}
-use Rattle.stop_protection.specs.declared.Limit.the-variants as limit
 use Rattle.stop_terms.specs.declared.StopTerms.{StopTerms}
 use Rattle.book.specs.Sizes.{dataLength}
 use Rattle.book.specs.Entries.{stopWords}
@@ -98,8 +96,3 @@ passWords c = c .moves ∷ c .elected ∷ c .used ∷ []
 abbrev pub previewWords : Option Adjustment → List ℕ
 previewWords none = replicate 3 0
 previewWords (some a) = 1 ∷ a .stop .0 ∷ a .reference .0 ∷ []
-
--- present (0, 1), and the limit or 0
-abbrev pub limitWords : Limit → List ℕ
-limitWords limit.None = replicate 2 0
-limitWords (limit.At price) = 1 ∷ price .0 ∷ []

@@ -63,8 +63,8 @@ module _ (price : Price) (t u : StopEntry) (same : t ≡ u) (after : StopTerms)
 
 pub fill-words : (price : Price) (t u : StopEntry) → t ≡ u → (kind side : ℕ) → kind ≡ kindNumber (t .id .kind)
     → side ≡ sideNumber (sideOf t)
-    → (kind ∷ t .id .high ∷ t .id .low ∷ side ∷ stopOf t ∷ t .quantity .0 ∷ seqOf t ∷ price .0 ∷ 0 ∷ 0 ∷ 0 ∷ 0 ∷ 0
-    ∷ []) ≡ fillOf price u
+    → (kind ∷ t .id .high ∷ t .id .low ∷ side ∷ stopOf t ∷ t .quantity .0 ∷ seqOf t ∷ price .0
+    ∷ 0 ∷ 0 ∷ 0 ∷ 0 ∷ 0 ∷ 0 ∷ []) ≡ fillOf price u
 unfolding fillOf fillWords
 fill-words price t u same kind side k d = rw (← same, k, d)
 

@@ -8,10 +8,10 @@ use Rattle.pricelevel.specs.Identity.{kindNumber}
 use Rattle.pricelevel.specs.Side.{sideNumber}
 use Rattle.pricelevel.specs.declared.Id.{Id}
 use Rattle.pricelevel.specs.declared.Price.{Price}
-use Rattle.stop_protection.specs.Collar.{limitUnder}
+use Rattle.stop_protection.specs.Collar.{limitUnder, limitPresent, limitHigh, limitLow}
 use Rattle.stop_trigger.specs.Child.{childId}
 use Rattle.book.specs.Book.{Book, sideOf, stopOf, seqOf}
-use Rattle.book.specs.Entries.{movedWords, limitPresent, limitWord}
+use Rattle.book.specs.Entries.{movedWords}
 use Rattle.book.specs.Evaluation.{Fill, trailed}
 use Rattle.book.specs.Store.{isPending}
 use Rattle.book.specs.Words.{kindOf, sideFrom}
@@ -25,7 +25,7 @@ fillWords f =
     let t = f .stop in
     kindNumber (t .id .kind) ∷ t .id .high ∷ t .id .low ∷ sideNumber (sideOf t) ∷ stopOf t ∷ t .quantity .0 ∷ seqOf t
     ∷ f .trigger .0
-    ∷ 0 ∷ 0 ∷ 0 ∷ 0 ∷ 0 ∷ []
+    ∷ 0 ∷ 0 ∷ 0 ∷ 0 ∷ 0 ∷ 0 ∷ []
 
 -- its move, if a trade at the price changes its stop
 unfoldable pub movesOf : Price → StopEntry → List (List ℕ)
@@ -52,4 +52,4 @@ completed s b e =
     let limit = limitUnder (s .protection) (sideFrom (getD e 3 0)) (record { 0 = getD e 4 0 }) in
     let child = childId (s .namespace) id in
     getD e 0 0 ∷ getD e 1 0 ∷ getD e 2 0 ∷ getD e 3 0 ∷ getD e 4 0 ∷ getD e 5 0 ∷ getD e 6 0 ∷ getD e 7 0
-    ∷ limitPresent limit ∷ limitWord limit ∷ child .high ∷ child .low ∷ cond (isPending child b) 1 0 ∷ []
+    ∷ limitPresent limit ∷ limitHigh limit ∷ limitLow limit ∷ child .high ∷ child .low ∷ cond (isPending child b) 1 0 ∷ []

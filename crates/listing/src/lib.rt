@@ -2,7 +2,7 @@
 // the limits and child orders of the elected. The store is only read.
 //
 //     moved:   kind high low stop
-//     elected: kind high low side stop quantity seq trigger | limit present, limit, child high, child low, child pending
+//     elected: kind high low side stop quantity seq trigger | limit present, high, low, child high, low, child pending
 use book::Chain;
 use book::ElectedWords;
 use book::MovedWords;
@@ -109,6 +109,7 @@ fn list_fill(s: &[u64], n: u64, i: u64, price: Price, list: &mut [ElectedWords],
         quantity.0,
         seq.0,
         price.0,
+        0,
         0,
         0,
         0,

@@ -10,6 +10,7 @@ use Rattle.book.specs.Book.{Book, pendingCount}
 use Rattle.book.specs.Calls.{electedEntry, electedEntries, evaluatedIn, executedIn}
 use Rattle.book.specs.Evaluation.{Fill, segment}
 use Rattle.book.specs.Script.{executed}
+use Rattle.book.specs.Sizes.{pendingPlace}
 use Rattle.book.specs.declared.Elected.{Elected}
 use Rattle.book.specs.declared.PrintSegment.{PrintSegment}
 use Rattle.book.specs.declared.Settings.{Settings}
@@ -36,7 +37,7 @@ module _ (settings : Settings) (prints : PrintSegment) where
       (points-count (settings .kill) (segment-points (settings .kill) prints b))
 
 -- the last word of an elected entry
-pub last-word : (e : Elected) → getD (electedWords e) 12 0 ≡ pendingWord e
+pub last-word : (e : Elected) → getD (electedWords e) pendingPlace 0 ≡ pendingWord e
 unfolding electedWords pendingWord
 last-word e = refl
 

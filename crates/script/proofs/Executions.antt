@@ -10,7 +10,7 @@ use lib.ListN.{length, getD, set, drop, length-append, length-set}
 use lib.Seq.{drop-drop, sets, getD-set-same}
 use Rattle.book.proofs.Execution.{executeOne-segments, executeOne-used, executed-used, script-left, scriptFormed-length}
 use Rattle.book.specs.Script.{Executed, scriptFormed, executeOne, executed}
-use Rattle.book.specs.Sizes.{scriptEntryLength}
+use Rattle.book.specs.Sizes.{scriptEntryLength, pendingPlace}
 use Rattle.book.specs.declared.Elected.{Elected}
 use Rattle.book.specs.declared.PrintSegment.{PrintSegment}
 use Rattle.script.specs.Execute.{pendingWord, Flags, Advanced}
@@ -82,7 +82,7 @@ module _ {list : List (List ℕ)} {to : ℕ} {script : List ℕ} {es : List Elec
     -- after a turn
     pub progress-next : (left : List Elected) → Progress list to script es words tail words′ used tail′ i left → i < to
         → scriptFormed script ≡ true → (words″ : List (List ℕ)) (used′ tail″ : ℕ)
-        → ((e : Elected) → getD (getD list i []) 12 0 ≡ pendingWord e
+        → ((e : Elected) → getD (getD list i []) pendingPlace 0 ≡ pendingWord e
         → Advanced (executeOne (drop (scriptEntryLength * used) script) e) used words′ tail′ used′ words″ tail″)
         → (left′ : List Elected) × Progress list to script es words tail words″ used′ tail″ (i + 1) left′
     progress-next [] p h f words″ used′ tail″ turn = absurd (omega (arith, p .ends))
@@ -126,7 +126,7 @@ executed-within script es f = let (n, l) = scriptFormed-length script f in omega
 
 -- words behind an element leave it as it is
 -- entries that are written to a list, each with its last word
-module _ (entryWords : Elected → List ℕ) (last : (e : Elected) → getD (entryWords e) 12 0 ≡ pendingWord e) where
+module _ (entryWords : Elected → List ℕ) (last : (e : Elected) → getD (entryWords e) pendingPlace 0 ≡ pendingWord e) where
   pub flags-written : (list : List (List ℕ)) (from : ℕ) (es : List Elected) → from + length es ≤ length list
       → Flags (sets list from (map entryWords es)) from es
   flags-written list from [] room = tt

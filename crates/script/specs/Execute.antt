@@ -5,6 +5,7 @@ use mathlib.Core.List.{List, [], _∷_}
 use mathlib.Core.Path.{_≡_}
 use lib.ListN.{getD}
 use Rattle.book.specs.Script.{Executed}
+use Rattle.book.specs.Sizes.{pendingPlace}
 use Rattle.book.specs.declared.Elected.{Elected}
 use Rattle.script.specs.Queue.{Enqueued}
 
@@ -15,7 +16,7 @@ pendingWord e = cond (e .pending) 1 0
 -- the entries of a lent list, from this one on, say of each elected whether its child identity is pending
 abbrev pub Flags : List (List ℕ) → ℕ → List Elected → Type 0
 Flags list from [] = Unit {0}
-Flags list from (e ∷ es) = (getD (getD list from []) 12 0 ≡ pendingWord e) × Flags list (suc from) es
+Flags list from (e ∷ es) = (getD (getD list from []) pendingPlace 0 ≡ pendingWord e) × Flags list (suc from) es
 
 -- elected have executed so: the script entries that are used, the queue's list and its tail, before and after
 pub record Advanced (run : Executed) (used : ℕ) (words : List (List ℕ)) (tail : ℕ) (used′ : ℕ) (words′ : List (List ℕ))

@@ -3,6 +3,7 @@
 //     script entry: printed (0, 1), prev present (0, 1), prev, first, last
 //     queue entry: prev present (0, 1), prev (0 if absent), first, last
 use book::ElectedWords;
+use book::PENDING_PLACE;
 use book::SCRIPT_ENTRY_WORDS;
 ghost use mathlib.Core.Bool.{true};
 ghost use mathlib.Core.List.{List};
@@ -117,7 +118,7 @@ pub fn execute(
     let mut end = tail;
     let mut i = from;
     while i < to {
-        let pending = list[i][12];
+        let pending = list[i][PENDING_PLACE];
         let after = execute_one(pending, script, used, queue, end);
         used = after.used;
         end = after.tail;

@@ -36,9 +36,9 @@ fn preview(n: &[u64]) {
 }
 
 fn limit(n: &[u64]) {
-    let mut answer = [LENT; 2];
+    let mut answer = [LENT; 3];
     let r = yubtomiq_limit_price(word(n, 0), word(n, 1), word(n, 2), &mut answer);
-    printing::two(r, &answer);
+    printing::three(r, &answer);
 }
 
 fn child(n: &[u64]) {

@@ -1,10 +1,12 @@
 -- The collar and the limit that it gives an elected stop's order.
-use Prim.Native.Nat.{ℕ, _+_, _-_, _^_, min}
+use Prim.Native.Nat.{ℕ, _+_, _-_}
 use mathlib.Core.Bool.{cond}
+use mathlib.Core.List.{List, [], _∷_}
 use lib.Dec.{eqb}
 use Rattle.error.specs.Answer.{Answer, refused, accepted}
 use Rattle.error.specs.Refusal.{refusalNumber}
 use Rattle.pricelevel.specs.Tick.{onTick}
+use Rattle.pricelevel.specs.TwoWords.{twoWords}
 use Rattle.pricelevel.specs.declared.Price.{Price}
 use Rattle.pricelevel.specs.declared.Side.{Side}
 use Rattle.pricelevel.specs.declared.Side.the-variants.{Buy, Sell}
@@ -28,19 +30,36 @@ unfoldable pub toldNew : NewProtection → Answer StopProtection
 toldNew (new.Ok p) = accepted p
 toldNew (new.Err e) = refused (refusalNumber e)
 
--- document 01, The limit and the child: a sell's is stop − collar, or 0 if that is negative; a buy's stop + collar, at
--- most 2^64 − 1
+-- document 01, The limit and the child, as document 02, Four, has it: a sell's is stop − collar, or 0 if that is
+-- negative; a buy's is stop + collar
 unfoldable pub limitFor : ℕ → Side → ℕ → ℕ
 limitFor collar Sell stop = stop - collar
-limitFor collar Buy stop = min (stop + collar) (2 ^ 64 - 1)
+limitFor collar Buy stop = stop + collar
 
+-- document 02, Four: the same in two words, high and low
 unfoldable pub limitPrice : ℕ → Side → Price → LimitPrice
-limitPrice collar side stop = record { 0 = limitFor collar side (stop .0) }
+limitPrice collar side stop = record { 0 = twoWords (limitFor collar side (stop .0)) }
 
--- the same place: no collar, no limit
+-- document 01, the same place: no collar, no limit
 unfoldable pub limitUnder : Protection → Side → Price → Limit
 limitUnder protection.None side stop = limit.None
 limitUnder (protection.Collar p) side stop = limit.At (limitPrice (p .collar) side stop)
+
+-- document 02, Four: the words of a limit: 1 if there is one, and its high and low word, or 0
+unfoldable pub limitPresent : Limit → ℕ
+limitPresent limit.None = 0
+limitPresent (limit.At p) = 1
+
+unfoldable pub limitHigh : Limit → ℕ
+limitHigh limit.None = 0
+limitHigh (limit.At p) = p .0 .high
+
+unfoldable pub limitLow : Limit → ℕ
+limitLow limit.None = 0
+limitLow (limit.At p) = p .0 .low
+
+abbrev pub limitWords : Limit → List ℕ
+limitWords l = limitPresent l ∷ limitHigh l ∷ limitLow l ∷ []
 
 -- document 01, The questions, 18: the tick is 0 or the collar a multiple of it
 unfoldable pub checkTickSize : ℕ → ℕ → Answer (Unit {0})

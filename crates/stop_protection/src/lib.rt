@@ -1,19 +1,36 @@
 // Protection collar for elected stops, from orderbook-rs's stop_protection.rs: an elected stop executes as a limit
-// order at its stop price moved by the collar against it. A collar that reaches past the lowest or highest price does
-// not protect that side.
+// order at its stop price moved by the collar against it. A sell's collar that reaches past the lowest price does not
+// protect it. A buy's limit may pass the highest price, so it has two words.
 use error::Refusal;
 use pricelevel::Price;
 use pricelevel::Side;
+use pricelevel::TwoWords;
 ghost use mathlib.Core.Path.{_≡_};
-ghost use Rattle.stop_protection.specs.Collar.{tryNew, toldNew, limitFor, limitPrice, limitUnder, checkTickSize, toldCheck};
+ghost use Prim.Native.Nat.{_<_, _^_};
+ghost use Rattle.pricelevel.specs.TwoWords.{numberOf};
+ghost use Rattle.stop_protection.specs.Collar.{tryNew, toldNew, limitFor, limitUnder, limitWords, checkTickSize, toldCheck};
 
-// The limit price of an elected stop's order. It has a type of its own, since no order rests at it.
-pub struct LimitPrice(pub u64);
+// The limit price of an elected stop's order. It has a type of its own, since no order rests at it: a buy's may need
+// both words.
+pub struct LimitPrice(pub TwoWords);
 
 // The limit of an elected stop's order: none for a market order.
 pub enum Limit {
     None,
     At(LimitPrice),
+}
+
+impl Limit {
+    // The words of a limit: present (0, 1), and the price's high and low word, or zeros.
+    pub fn words(self) -> [u64; 3]
+        ensures { λ r. ⌜ r ≡ limitWords self ⌝ }
+    {
+        let Limit::At(price) = self else {
+            return [0, 0, 0];
+        };
+        let words = price.0;
+        [1, words.high, words.low]
+    }
 }
 
 // A collar, in price units, which is never zero: no protection is Protection::None, not a zero collar.
@@ -37,7 +54,7 @@ impl StopProtection {
     // The lowest price: a sell's limit below it is unbounded.
     pub const LOWEST_PRICE: u64 = 0;
 
-    // The highest price: a buy's limit above it is unbounded.
+    // The highest price. It caps no limit: a buy's goes on above it.
     pub const HIGHEST_PRICE: u64 = 0xffff_ffff_ffff_ffff;
 
     // A protection with a collar of so many price units. Refused: a zero collar (17).
@@ -57,30 +74,28 @@ impl StopProtection {
         self.collar
     }
 
-    // The limit of a stop's order: stop - collar for a sell, stop + collar for a buy, held within the price range.
-    pub fn limit_for(self, side: Side, stop: u64) -> u64
-        ensures { λ r. ⌜ r ≡ limitFor (self .collar) side stop ⌝ }
+    // The limit of a stop's order: stop - collar for a sell, or the lowest price; stop + collar for a buy.
+    pub fn limit_for(self, side: Side, stop: u64) -> TwoWords
+        ensures { λ r. ⌜ numberOf r ≡ limitFor (self .collar) side stop ⌝ }
+        ensures { λ r. ⌜ r .low < 2 ^ 64 ⌝ }
     {
         let collar = self.collar;
         match side {
             Side::Sell => {
-                if stop < collar {
-                    return Self::LOWEST_PRICE;
+                let mut low = Self::LOWEST_PRICE;
+                if collar < stop {
+                    low = stop - collar;
                 }
-                stop - collar
+                TwoWords { high: 0, low: low }
             }
-            Side::Buy => {
-                if Self::HIGHEST_PRICE - collar < stop {
-                    return Self::HIGHEST_PRICE;
-                }
-                stop + collar
-            }
+            Side::Buy => TwoWords::sum(stop, collar),
         }
     }
 
     // The same from a stop price to a limit price.
     pub fn limit_price(self, side: Side, stop_price: Price) -> LimitPrice
-        ensures { λ r. ⌜ r ≡ limitPrice (self .collar) side «stop_price» ⌝ }
+        ensures { λ r. ⌜ numberOf (r .0) ≡ limitFor (self .collar) side («stop_price» .0) ⌝ }
+        ensures { λ r. ⌜ r .0 .low < 2 ^ 64 ⌝ }
     {
         LimitPrice(self.limit_for(side, stop_price.0))
     }

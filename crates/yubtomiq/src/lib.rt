@@ -17,11 +17,11 @@ ghost use Rattle.book.specs.Store.{layOut, pendingQuantity};
 ghost use Rattle.book.specs.Words.{wellFormed};
 ghost use Rattle.book.specs.Entries.{electedWords, movedWords, stopWords};
 ghost use Rattle.book.specs.Ladder.{ladderWords};
-ghost use Rattle.stop_protection.specs.Collar.{tryNew};
+ghost use Rattle.stop_protection.specs.Collar.{tryNew, limitWords};
 ghost use Rattle.pricelevel.specs.Price.{toPrice};
 ghost use Rattle.both_ways.specs.Ends.{Comparable, Decided};
 ghost use Rattle.yubtomiq.specs.BothWays.{endsByWords, wayWords};
-ghost use Rattle.host_words.specs.Answers.{Told, number, flag, seqWords, idWords, termsWords, segmentWords, foundWords, listedWords, totalsWords, countsWords, passWords, previewWords, limitWords};
+ghost use Rattle.host_words.specs.Answers.{Told, number, flag, seqWords, idWords, termsWords, segmentWords, foundWords, listedWords, totalsWords, countsWords, passWords, previewWords};
 ghost use Rattle.host_words.specs.ByWords.{admitByWords, clearByWords, cancelByWords, updateByWords, findByWords, collectByWords, massCancelByWords, ladderByWords, recordByWords, takeByWords, resetByWords, segmentByWords, walkByWords, passByWords, runByWords, trailedByWords, electedByWords, inconsistencyByWords, previewByWords, limitByWords, checkOf, childByWords};
 
 // ---------------------------------------------------------------------
@@ -425,7 +425,7 @@ pub extern "C" fn yubtomiq_limit_price(
     collar: u64,
     side: u64,
     stop_price: u64,
-    answer: &mut [u64; 2],
+    answer: &mut [u64; 3],
 ) -> u64
     ensures { λ r. ⌜ Told limitWords (limitByWords collar side «stop_price») (now (answer .entry)) r (now (answer .exit)) ⌝ }
 {

@@ -258,12 +258,16 @@ impl<'a> Session<'a> {
         }
     }
 
-    /// Zero is none.
+    /// Zero is none. Some reach from a price to the top, or past it.
     fn collar(&mut self) -> u64 {
         match self.random.below(100) {
             0..30 => 0,
             30..80 => 1 + self.random.below(6),
-            80..90 => self.price(),
+            80..90 => {
+                let price = self.price();
+                let space = TOP - price;
+                self.random.pick(&[price, space, space.saturating_add(1)])
+            }
             _ => self.random.pick(&[1, 1 << 63, TOP - 1, TOP]),
         }
     }

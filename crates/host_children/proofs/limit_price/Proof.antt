@@ -13,7 +13,7 @@ returns-2 c =
     let p = l .before .before in
     let known = is-known (p .before .before .side-known .ensures) (p .before .if1 .left) in
     rw (known, ← p .protection-of .ensures, ← l .before .side-from .ensures)
-    (refl, rw (l .limit .ensures) at (c .limit-words .ensures))
+    (refl, rw (l .limit .ensures) at (c .words .ensures))
 
 pub limit-price-spec : {M : Type 1} → statement M
 unfolding number answered
