@@ -114,6 +114,11 @@ typedef struct yubtomiq_price {
     uint64_t present, price;
 } yubtomiq_price;
 
+/* The limit of an elected stop's order, that may be absent: high * 2^64 + low. A buy's goes on above the highest price. */
+typedef struct yubtomiq_limit {
+    uint64_t present, high, low;
+} yubtomiq_limit;
+
 /* Side, price and quantity are read only where the change has them. */
 typedef struct yubtomiq_update {
     uint64_t change, side, price, quantity;
@@ -194,10 +199,11 @@ typedef struct yubtomiq_pass_counts {
     uint64_t moves, elected, used;
 } yubtomiq_pass_counts;
 
-/* An entry of an elected list. The child identity is of kind 0; child_pending says whether it is pending after the call. */
+/* An entry of an elected list. The limit is limit_high * 2^64 + limit_low. The child identity is of kind 0; child_pending says whether it is
+ * pending after the call. */
 typedef struct yubtomiq_elected {
     uint64_t kind, high, low, side, stop, quantity, seq, trigger;
-    uint64_t has_limit, limit, child_high, child_low, child_pending;
+    uint64_t has_limit, limit_high, limit_low, child_high, child_low, child_pending;
 } yubtomiq_elected;
 
 /* An entry of a segment's moved list, with the new stop. */
@@ -318,7 +324,7 @@ uint64_t yubtomiq_calculate_trailing_stop_price(uint64_t side, uint64_t current_
                                                 yubtomiq_adjustment *answer);
 
 /* Writes the limit of a stop's order under a collar; a collar of 0 gives none. Refused: 255. */
-uint64_t yubtomiq_limit_price(uint64_t collar, uint64_t side, uint64_t stop_price, yubtomiq_price *answer);
+uint64_t yubtomiq_limit_price(uint64_t collar, uint64_t side, uint64_t stop_price, yubtomiq_limit *answer);
 
 /* Refused: 17. */
 uint64_t yubtomiq_check_collar(uint64_t collar);

@@ -10,8 +10,6 @@ use std::num::NonZeroU64;
 
 type Answer = Result<Vec<u64>, String>;
 
-const TOP: u64 = u64::MAX;
-
 /// Where a record has its quantity, which is 0 where it is free, its sequence, its link by stop and its holder.
 const QUANTITY: usize = 7;
 const SEQUENCE: usize = 8;
@@ -33,7 +31,7 @@ pub fn replay(name: &str, w: &mut Words) -> Answer {
         "limit_for" => {
             let collar = NonZeroU64::new(w.next()?);
             let limit = limit_price(collar, side(w)?, w.next()?).ok_or("no limit")?;
-            Ok(vec![0, limit])
+            Ok(wide_words(limit).to_vec())
         }
         "preview" => {
             let t = terms(w)?;
@@ -277,11 +275,16 @@ fn prints(w: &mut Words) -> Result<Prints, String> {
     Ok(Prints { prev: w.maybe()?, first: w.next()?, last: w.next()? })
 }
 
-/// The limit as the Rust's wide number.
+/// A wide number's words, the high one first.
+fn wide_words(wide: u128) -> [u64; 2] {
+    [(wide >> 64) as u64, wide as u64]
+}
+
 fn elected_words(elected: &[Elected]) -> Vec<u64> {
     let one = |e: &Elected| {
         let mut words = id_words(e.id);
-        words.extend([e.side as u64, e.stop, e.quantity, e.seq, e.trigger, u64::from(e.limit.is_some()), 0, e.limit.unwrap_or(0)]);
+        words.extend([e.side as u64, e.stop, e.quantity, e.seq, e.trigger, u64::from(e.limit.is_some())]);
+        words.extend(wide_words(e.limit.unwrap_or(0)));
         words.extend(id_words(e.child));
         words.push(u64::from(e.child_pending));
         words
@@ -343,34 +346,26 @@ fn walked(store: &Store, settings: Settings, prints: Prints) -> Result<(), Strin
 }
 
 // ---------------------------------------------------------------------
-// What is known to differ
+// What is known to differ, and what is counted
 
-/// Caps the Rust's limits above 2^64 - 1, and says how many there were. Of a run whose children printed, the closed path's prices are left out.
-pub fn adjust(name: &str, found: &mut Vec<u64>, expected: &mut Vec<u64>) -> Result<u64, String> {
-    let lists = match name {
-        "limit_for" => return Ok(cap(expected, 0)),
-        "segment" => 2 + MOVED_WORDS * *expected.first().ok_or("no moves")? as usize,
-        "pass" | "run" => 3,
-        _ => return Ok(0),
-    };
-    let elected = *expected.get(1).ok_or("no count")? as usize;
-    let capped = (0..elected).map(|k| cap(expected, lists + ELECTED_WORDS * k + LIMIT)).sum();
-    if name == "run" {
-        let kept = expected.len().checked_sub(5).ok_or("no path")?;
-        if expected.remove(kept) == 0 {
-            expected.truncate(kept + 1);
-            found.truncate(found.len() - 3);
-        }
+/// Of a run whose children printed, the closed path's prices are left out.
+pub fn without_kept(found: &mut Vec<u64>, expected: &mut Vec<u64>) -> Result<(), String> {
+    let kept = expected.len().checked_sub(5).ok_or("no path")?;
+    if expected.remove(kept) == 0 {
+        expected.truncate(kept + 1);
+        found.truncate(found.len() - 3);
     }
-    Ok(capped)
+    Ok(())
 }
 
-/// A wide limit, high word at a place.
-fn cap(words: &mut [u64], at: usize) -> u64 {
-    if words.get(at).is_none_or(|high| *high == 0) {
-        return 0;
-    }
-    words[at] = 0;
-    words[at + 1] = TOP;
-    1
+/// The limits among the Rust's answers, high word and low.
+pub fn limits(name: &str, expected: &[u64]) -> Vec<[u64; 2]> {
+    let lists = match name {
+        "limit_for" => return vec![[expected[0], expected[1]]],
+        "segment" => 2 + MOVED_WORDS * expected[0] as usize,
+        "pass" | "run" => 3,
+        _ => return vec![],
+    };
+    let entries = expected[lists..].chunks(ELECTED_WORDS).take(expected[1] as usize);
+    entries.filter(|e| e[LIMIT - 1] == 1).map(|e| [e[LIMIT], e[LIMIT + 1]]).collect()
 }

@@ -17,7 +17,7 @@ pub const HOLDER_WORDS: usize = 4;
 pub const STOP_WORDS: usize = RECORD_WORDS - 2;
 
 /// The words of an entry of a list: of the elected, of the moved, and of a ladder.
-pub const ELECTED_WORDS: usize = 13;
+pub const ELECTED_WORDS: usize = 14;
 pub const MOVED_WORDS: usize = 4;
 pub const LADDER_WORDS: usize = 3;
 
@@ -166,7 +166,7 @@ pub mod library {
             current_market_price: u64,
             answer: &mut [u64; 3],
         ) -> u64;
-        pub fn yubtomiq_limit_price(collar: u64, side: u64, stop_price: u64, answer: &mut [u64; 2]) -> u64;
+        pub fn yubtomiq_limit_price(collar: u64, side: u64, stop_price: u64, answer: &mut [u64; 3]) -> u64;
         pub fn yubtomiq_check_collar(collar: u64) -> u64;
         pub fn yubtomiq_check_tick_size(collar: u64, tick_size: u64) -> u64;
         pub fn yubtomiq_stop_trigger_order_id(namespace: &[u64; 2], id: &[u64; 3], answer: &mut [u64; 3]) -> u64;
@@ -331,12 +331,17 @@ fn price_words(price: Option<u64>) -> [u64; 2] {
     [price.is_some() as u64, price.unwrap_or(0)]
 }
 
-fn present(flag: u64, word: u64) -> Option<u64> {
+fn present<T>(flag: u64, value: T) -> Option<T> {
     if flag == 0 {
         None
     } else {
-        Some(word)
+        Some(value)
     }
+}
+
+/// The number of two words.
+fn wide(high: u64, low: u64) -> u128 {
+    (high as u128) << 64 | low as u128
 }
 
 /// The trailing parameters of a stop.
@@ -562,7 +567,7 @@ pub struct Elected {
     pub quantity: u64,
     pub seq: u64,
     pub trigger: u64,
-    pub limit: Option<u64>,
+    pub limit: Option<u128>,
     pub child: Id,
     pub child_pending: bool,
 }
@@ -576,9 +581,9 @@ impl Elected {
             quantity: w[5],
             seq: w[6],
             trigger: w[7],
-            limit: present(w[8], w[9]),
-            child: Id { kind: IdKind::Uuid, high: w[10], low: w[11] },
-            child_pending: w[12] != 0,
+            limit: present(w[8], wide(w[9], w[10])),
+            child: Id { kind: IdKind::Uuid, high: w[11], low: w[12] },
+            child_pending: w[13] != 0,
         }
     }
 }
@@ -748,8 +753,7 @@ impl Store {
         let mut answer = [0; 4];
         let (words, count) = (self.words.as_ptr(), self.words.len());
         let number = unsafe { library::yubtomiq_pending_stop_quantity(words, count, &mut answer) };
-        let sum = |high: u64, low: u64| (high as u128) << 64 | low as u128;
-        done(number, answer).map(|w| Totals { sell: sum(w[0], w[1]), buy: sum(w[2], w[3]) })
+        done(number, answer).map(|w| Totals { sell: wide(w[0], w[1]), buy: wide(w[2], w[3]) })
     }
 
     /// The selected stops by rising sequence.
@@ -970,11 +974,11 @@ pub fn calculate_trailing_stop_price(
     }
 }
 
-/// The limit of a stop's order: no collar, no limit.
-pub fn limit_price(collar: Option<NonZeroU64>, side: Side, stop_price: u64) -> Option<u64> {
-    let mut a = [0; 2];
+/// The limit of a stop's order: no collar, no limit. A buy's goes on above the highest price.
+pub fn limit_price(collar: Option<NonZeroU64>, side: Side, stop_price: u64) -> Option<u128> {
+    let mut a = [0; 3];
     unsafe { library::yubtomiq_limit_price(collar_word(collar), side as u64, stop_price, &mut a) };
-    present(a[0], a[1])
+    present(a[0], wide(a[1], a[2]))
 }
 
 /// A collar of so many price units. Refused: [`Refusal::ZeroCollar`].

@@ -81,7 +81,7 @@ static void refused_values(void) {
     yubtomiq_elected elected[3];
     yubtomiq_terms after = {9, 9, 9, 9};
     yubtomiq_adjustment adjustment = {9, 9, 9};
-    yubtomiq_price limit = {9, 9};
+    yubtomiq_limit limit = {9, 9, 9};
     yubtomiq_id child = {9, 9, 9};
     stop = kept;
     same("kind", yubtomiq_admit_trailing_stop(words, LENT, &path, 1, &NONE, &unknown, &terms, 0, &NOBODY, &sequence), 255);
@@ -147,7 +147,7 @@ static void lists(void) {
     same("segment", yubtomiq_segment(words, LENT, &settings, &prints, elected, 4, moved, 7, &counts), 0);
     same("moves", counts.moves, 2);
     same("elected", counts.elected, 1);
-    const yubtomiq_elected first = {2, 0, 1, YUBTOMIQ_SELL, 95, 10, 0, 94, 1, 92, elected[0].child_high, elected[0].child_low, 0};
+    const yubtomiq_elected first = {2, 0, 1, YUBTOMIQ_SELL, 95, 10, 0, 94, 1, 0, 92, elected[0].child_high, elected[0].child_low, 0};
     same_words("the elected entry", &elected[0], &first, WORDS_OF(yubtomiq_elected));
     same_words("the next entry stays", &elected[1], &entry, WORDS_OF(yubtomiq_elected));
     same_words("the first move", &moved[0], &(yubtomiq_moved){2, 0, 3, 104}, 4);
@@ -304,7 +304,7 @@ static yubtomiq_script_entry script[MOST];
 static void values(void) {
     yubtomiq_terms after;
     yubtomiq_adjustment adjustment;
-    yubtomiq_price limit;
+    yubtomiq_limit limit;
     same("trailed", yubtomiq_trailed(&(yubtomiq_terms){YUBTOMIQ_SELL, 90, 100, 10}, 105, &after), 0);
     same_words("terms", &after, &(yubtomiq_terms){YUBTOMIQ_SELL, 95, 105, 10}, 4);
     same("elected", yubtomiq_elected_by(&(yubtomiq_terms){YUBTOMIQ_BUY, 105, 100, 5}, 105), 1);
@@ -313,9 +313,15 @@ static void values(void) {
     same("preview", yubtomiq_calculate_trailing_stop_price(YUBTOMIQ_SELL, 90, 10, 100, 105, &adjustment), 0);
     same_words("adjustment", &adjustment, &(yubtomiq_adjustment){1, 95, 105}, 3);
     same("limit", yubtomiq_limit_price(5, YUBTOMIQ_SELL, 95, &limit), 0);
-    same_words("limit price", &limit, &(yubtomiq_price){1, 90}, 2);
+    same_words("limit price", &limit, &(yubtomiq_limit){1, 0, 90}, 3);
+    same("limit at the top", yubtomiq_limit_price(1, YUBTOMIQ_BUY, UINT64_MAX, &limit), 0);
+    same_words("limit above the top", &limit, &(yubtomiq_limit){1, 1, 0}, 3);
+    same("highest limit", yubtomiq_limit_price(UINT64_MAX, YUBTOMIQ_BUY, UINT64_MAX, &limit), 0);
+    same_words("highest limit's words", &limit, &(yubtomiq_limit){1, 1, UINT64_MAX - 1}, 3);
+    same("lowest limit", yubtomiq_limit_price(UINT64_MAX, YUBTOMIQ_SELL, UINT64_MAX - 1, &limit), 0);
+    same_words("lowest limit's words", &limit, &(yubtomiq_limit){1, 0, 0}, 3);
     same("no collar", yubtomiq_limit_price(0, YUBTOMIQ_SELL, 95, &limit), 0);
-    same_words("no limit", &limit, &(yubtomiq_price){0, 0}, 2);
+    same_words("no limit", &limit, &(yubtomiq_limit){0, 0, 0}, 3);
     same("zero collar", yubtomiq_check_collar(0), 17);
     same("zero collar on a tick", yubtomiq_check_tick_size(0, 5), 17);
     same("off the tick", yubtomiq_check_tick_size(7, 5), 18);

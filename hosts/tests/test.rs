@@ -90,7 +90,9 @@ fn limit_examples(c: &mut Checks) {
     c.same("no preview", calculate_trailing_stop_price(Side::Sell, 95, 10, 100, 101), None);
     c.same("sell 95 collar 5", limit_price(collar(5).ok(), Side::Sell, 95), Some(90));
     c.same("sell 95 collar 100", limit_price(collar(100).ok(), Side::Sell, 95), Some(0));
-    c.same("buy at the top, collar 1", limit_price(collar(1).ok(), Side::Buy, MAX), Some(MAX));
+    c.same("buy at the top, collar 1", limit_price(collar(1).ok(), Side::Buy, MAX), Some(1 << 64));
+    c.same("buy at the top, collar at the top", limit_price(collar(MAX).ok(), Side::Buy, MAX), Some(2 * u128::from(MAX)));
+    c.same("buy up to the top", limit_price(collar(1).ok(), Side::Buy, MAX - 1), Some(u128::from(MAX)));
     c.same("no collar", limit_price(None, Side::Buy, 95), None);
     let five = collar(5).expect("a collar");
     c.same("tick 0", check_tick_size(five, 0), Ok(()));
