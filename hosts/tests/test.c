@@ -160,6 +160,19 @@ static void lists(void) {
     same("beyond", words[WORDS + 1], 78);
 }
 
+static void limit_above_the_top(void) {
+    uint64_t words[LENT];
+    lay_out(words);
+    const yubtomiq_settings settings = {0, UINT64_MAX, 0, 0};
+    const uint64_t price = 110;
+    yubtomiq_elected elected[3];
+    yubtomiq_counts counts = {5, 5};
+    same("walk", yubtomiq_walk(words, LENT, &settings, &NONE, &price, 1, elected, 3, &counts), 0);
+    same("elected", counts.elected, 1);
+    const yubtomiq_elected buy = {2, 0, 3, YUBTOMIQ_BUY, 110, 30, 2, 110, 1, 1, 109, elected[0].child_high, elected[0].child_low, 0};
+    same_words("the elected entry above the top", &elected[0], &buy, WORDS_OF(yubtomiq_elected));
+}
+
 static void answers(void) {
     uint64_t words[LENT];
     lay_out(words);
@@ -423,6 +436,7 @@ int main(void) {
     refused_values();
     stack();
     lists();
+    limit_above_the_top();
     answers();
     collected();
     tried();

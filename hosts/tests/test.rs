@@ -307,6 +307,18 @@ fn run_and_ends(c: &mut Checks) {
     }
 }
 
+fn limits_above_the_top(c: &mut Checks) {
+    let whole = store(3, 0, &[buy(MAX - 4, 100, 5), buy(MAX, 100, 5)]);
+    let settings = Settings { kill: false, collar: collar(4).ok(), namespace: Namespace { high: 0, low: 0 } };
+    let limits = |e: &[Elected]| e.iter().map(|e| e.limit).collect::<Vec<_>>();
+    let expected = vec![Some(u128::from(MAX)), Some((1 << 64) + 3)];
+    let segment = whole.clone().segment(settings, prints(None, MAX - 5, MAX)).expect("a segment");
+    c.same("limits at and above the top, by the ends", limits(&segment.elected), expected.clone());
+    let walk = whole.clone().walk(settings, None, &[MAX - 5, MAX - 2, MAX]).expect("a walk");
+    c.same("limits at and above the top, by the run", limits(&walk.elected), expected);
+    c.same("no child is pending", walk.elected.iter().any(|e| e.child_pending), false);
+}
+
 fn moved_list(c: &mut Checks) {
     let mut s = store(3, 0, &[sell(90, 100, 10), sell(70, 95, 30)]);
     let done = s.segment(Settings { kill: true, ..Settings::default() }, prints(None, 105, 108)).expect("a segment");
@@ -391,6 +403,7 @@ fn main() {
     turning_example(&mut c);
     run_and_ends(&mut c);
     both_ways(&mut c);
+    limits_above_the_top(&mut c);
     moved_list(&mut c);
     passes(&mut c);
     paths(&mut c);

@@ -80,7 +80,7 @@ fn leaves(checks: &mut Checks) {
     for (side, stop, price, elects) in [(Sell, 95, 95, true), (Sell, 95, 96, false), (Buy, 105, 105, true), (Buy, 105, 104, false)] {
         checks.equal("elected_by", terms(side, stop, stop, 1).elected_by(price), elects);
     }
-    // The last as document 02 has it.
+    // The last is the one that document 02 changes.
     let limits: [(Side, u64, u128, u128); 3] = [(Sell, 95, 5, 90), (Sell, 95, 100, 0), (Buy, TOP, 1, 1 << 64)];
     for (side, stop, collar, limit) in limits {
         let found = StopProtection::try_new(collar).map(|protection| protection.limit_for(side, u128::from(stop)));
