@@ -3,6 +3,7 @@ use book::Elected;
 use book::ElectedWords;
 use book::Moved;
 use book::MovedWords;
+use book::PENDING_PLACE;
 use pricelevel::Id;
 use pricelevel::IdKind;
 use pricelevel::Price;
@@ -56,7 +57,7 @@ pub fn elected_at(words: &[ElectedWords], at: usize) -> Elected
             high: e[11],
             low: e[12],
         },
-        pending: 0 < e[13],
+        pending: 0 < e[PENDING_PLACE],
     }
 }
 
