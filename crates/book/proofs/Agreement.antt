@@ -1,24 +1,19 @@
--- A run of prices that never falls, or never rises, is decided by its ends: a segment leaves the book that the walk
--- over all its prices leaves, and takes out the same stops in the same order. Only the prices that elect them differ.
-use Prim.Native.Nat.{ℕ}
+-- A run of prices is decided by its turning points: the walk over them leaves the book that the walk over all its prices
+-- leaves, and takes out the same stops in the same order. Only the prices that elect them differ.
 use mathlib.Core.Path.{_≡_, refl, sym, ap, _∙_}
-use mathlib.Core.Bool.{Bool, true, false}
-use mathlib.Core.List.{List, [], _∷_, _++_, map, map-append, map-map}
-use native.Mathlib.Omega.{arith}
-use borrow.Author.Tests.{eqb-true}
+use mathlib.Core.Bool.{Bool, false}
+use mathlib.Core.List.{List, [], _∷_, _++_, map, map-append, map-map, append-assoc, append-nil}
 use borrow.Table.Steps.{cases}
-use lib.Dec.{eqb}
 use Rattle.pricelevel.specs.declared.Price.{Price}
 use Rattle.pricelevel.specs.declared.Side.{Side}
-use Rattle.pricelevel.specs.declared.Side.the-variants.{Buy, Sell}
 use Rattle.stop_terms.specs.Terms.{behind}
-use Rattle.stop_terms.proofs.Terms.{tests}
 use Rattle.book.specs.Lists.{All}
 use Rattle.book.proofs.Points.{BookSettled, settled-trails, point-settled, electedBy-merged, book-merged, electedBy-again, book-again}
 use Rattle.book.proofs.Stops.{Trails}
+use Rattle.book.proofs.TurningPoints.{Straight, straight, turnsFrom-last}
 use Rattle.book.specs.Book.{Book, entries}
-use Rattle.book.specs.Evaluation.{fillAt, Evaluated, electedBy, point, sellsFirst, fallsTo, andThen, walkFrom, segment, lastOf, walk}
-use Rattle.book.specs.Runs.{Goes, Monotone}
+use Rattle.book.specs.Evaluation.{fillAt, Evaluated, electedBy, point, sellsFirst, fallsTo, andThen, walkFrom, lastOf, walk}
+use Rattle.book.specs.TurningPoints.{turnsAt, turnsFrom, turningPoints}
 use Rattle.book.specs.declared.LastPrice.{LastPrice}
 use Rattle.book.specs.declared.LastPrice.the-variants as last
 
@@ -29,6 +24,9 @@ use Rattle.book.specs.declared.LastPrice.the-variants as last
 pub record Agree (o r : Evaluated) : Type 0 where
   pub books : o .book ≡ r .book
   pub stops : map (λ f. f .stop) (o .fills) ≡ map (λ f. f .stop) (r .fills)
+
+pub agree-refl : {o : Evaluated} → Agree o o
+agree-refl = record { books = refl; stops = refl }
 
 pub agree-sym : {o r : Evaluated} → Agree o r → Agree r o
 agree-sym h = record { books = sym (h .books); stops = sym (h .stops) }
@@ -45,6 +43,24 @@ pub agree-andThen : (o : Evaluated) {r r′ : Evaluated} → Agree r r′ → Ag
 unfolding andThen
 agree-andThen o {r} {r′} h = record { books = h .books; stops = rw (andThen-stops o r, andThen-stops o r′, h .stops) }
 
+-- what follows depends on the book alone
+agree-then : {o r : Evaluated} (after : Book → Evaluated) → Agree o r
+    → Agree (andThen o (after (o .book))) (andThen r (after (r .book)))
+unfolding andThen
+agree-then {o} {r} after h = record {
+  books = ap (λ (b : Book). after b .book) (h .books);
+  stops = rw (andThen-stops o (after (o .book)), andThen-stops r (after (r .book)), h .stops, h .books);
+}
+
+agree-assoc : (o r t : Evaluated) → Agree (andThen o (andThen r t)) (andThen (andThen o r) t)
+unfolding andThen
+agree-assoc o r t = record { books = refl; stops = rw (append-assoc (o .fills) (r .fills) (t .fills)) }
+
+-- and then nothing
+pub agree-done : (o : Evaluated) → Agree o (andThen o (record { book = o .book; fills = []; moved = [] }))
+unfolding andThen
+agree-done o = record { books = refl; stops = rw (append-nil (o .fills)) }
+
 ------------------------------------------------------------------------
 -- Points
 
@@ -54,7 +70,7 @@ unfolding point fillAt entries
 point-stops kill first p b = map-map (λ f. f .stop) (fillAt p) (electedBy kill first p b)
 
 -- a point at the price at which the book is settled does nothing
-point-again : (kill first : Bool) (o : Price) (b : Book) → BookSettled kill o b
+pub point-again : (kill first : Bool) (o : Price) (b : Book) → BookSettled kill o b
     → Agree (record { book = b; fills = []; moved = [] }) (point kill first o b)
 unfolding entries
 point-again kill first o b w = record {
@@ -82,59 +98,41 @@ points-merged kill f g h o p q d b op pq w =
 ------------------------------------------------------------------------
 -- Runs
 
-goes-past : (d : Side) (p q : ℕ) → Goes d p q → behind d q p ≡ false
-unfolding behind
-goes-past Sell p q h = omega (arith, tests)
-goes-past Buy p q h = omega (arith, tests)
+-- from a book settled at o, a price on the straight way to the next does nothing
+passed-over : (kill falls : Bool) (from : LastPrice) (o p q : Price) (ps : List Price) (b : Book) → BookSettled kill o b
+    → Straight o p q
+    → Agree (walkFrom kill falls from (q ∷ ps) b) (walkFrom kill falls from (p ∷ q ∷ ps) b)
+unfolding walkFrom andThen
+passed-over kill falls from o p q ps b w s =
+    let first = sellsFirst falls from p in
+    let one = point kill first p b in
+    let two = point kill (sellsFirst falls (last.At p) q) q (one .book) in
+    let after : Book → Evaluated = λ c. walkFrom kill falls (last.At q) ps c in
+    agree-sym (agree-trans (agree-assoc one two (after (two .book)))
+    (agree-then after (points-merged kill first _ (sellsFirst falls from q) o p q (s .direction) b (s .there) (s .on) w)))
 
-goes-last : (d : Side) (p : Price) (ps : List Price) → Monotone d p ps → Goes d (p .0) (lastOf p ps .0)
-unfolding lastOf
-goes-last Sell p [] h = omega arith
-goes-last Sell p (q ∷ qs) h = omega (arith, goes-last Sell q qs (h .1))
-goes-last Buy p [] h = omega arith
-goes-last Buy p (q ∷ qs) h = omega (arith, goes-last Buy q qs (h .1))
+-- so the prices of a run that are no turning points do nothing
+turns-agree : (kill falls : Bool) (from : LastPrice) (o h : Price) (ps : List Price) (b : Book) → BookSettled kill o b
+    → Agree (walkFrom kill falls from (turnsFrom o h ps) b) (walkFrom kill falls from (h ∷ ps) b)
+unfolding turnsFrom walkFrom
+turns-agree kill falls from o h [] b w = agree-refl
+turns-agree kill falls from o h (q ∷ ps) b w =
+    let first = sellsFirst falls from h in
+    let one = point kill first h b in
+    cases (turnsAt o h q)
+    (λ e. rw e (agree-andThen one
+    (turns-agree kill falls (last.At h) h q ps (one .book) (point-settled kill first h b (settled-trails kill o b w)))))
+    (λ e. rw e (agree-trans (turns-agree kill falls from o q ps b w)
+    (passed-over kill falls from o h q ps b w (straight o h q e))))
 
--- from a book settled at o, the walk along a monotone run from o agrees with the one point at its last price
-pub stretch : (kill falls first : Bool) (from : LastPrice) (d : Side) (o : Price) (ps : List Price) (b : Book)
-    → BookSettled kill o b
-    → Monotone d o ps → Agree (walkFrom kill falls from ps b) (point kill first (lastOf o ps) b)
-unfolding walkFrom lastOf
-stretch kill falls first from d o [] b w r = point-again kill first o b w
-stretch kill falls first from d o (p ∷ ps) b w r =
-    let f = sellsFirst falls from p in
-    let v = point-settled kill f p b (settled-trails kill o b w) in
-    agree-trans
-    (agree-andThen (point kill f p b) (stretch kill falls first (last.At p) d p ps (point kill f p b .book) v (r .1)))
-    (points-merged kill f first first o p (lastOf p ps) d b (goes-past d (o .0) (p .0) (r .0))
-    (goes-past d _ _ (goes-last d p ps (r .1))) w)
-
--- so two such runs with the same last price agree
-pub stretches-agree : (kill falls : Bool) (from : LastPrice) (d : Side) (o : Price) (ps qs : List Price) (b : Book)
-    → BookSettled kill o b
-    → Monotone d o ps → Monotone d o qs → lastOf o ps ≡ lastOf o qs
-    → Agree (walkFrom kill falls from ps b) (walkFrom kill falls from qs b)
-stretches-agree kill falls from d o ps qs b w r s e =
-    agree-trans (rw (← e) (stretch kill falls true from d o ps b w r))
-    (agree-sym (stretch kill falls true from d o qs b w s))
-
-pub segment-walk : (kill : Bool) (prev : LastPrice) (d : Side) (first : Price) (rest : List Price) (b : Book)
-    → All Trails (b .slots)
-    → Monotone d first rest
-    → Agree (segment kill (record {
-      prev = prev;
-      first = first;
-      last = lastOf first rest;
-    }) b) (walk kill prev (first ∷ rest) b)
-unfolding segment walk walkFrom lastOf
-segment-walk kill prev d first rest b h r =
-    let end = lastOf first rest in
-    let falls = fallsTo first end in
-    let o = point kill (sellsFirst falls prev first) first b in
-    let w = point-settled kill (sellsFirst falls prev first) first b h in
-    cases (eqb (first .0) (end .0))
-    (λ e. rw e (agree-andThen o (stretches-agree kill falls (last.At first) d first [] rest (o .book) w tt r (λ i. record {
-      0 = eqb-true (first .0) (end .0) e i;
-    }))))
-    (λ e. rw e (agree-andThen o
-    (stretches-agree kill falls (last.At first) d first (end ∷ []) rest (o .book) w
-    (goes-last d first rest r, tt) r refl)))
+pub turning-points-walk : (kill : Bool) (prev : LastPrice) (ps : List Price) (b : Book) → All Trails (b .slots)
+    → Agree (walk kill prev (turningPoints ps) b) (walk kill prev ps b)
+unfolding walk walkFrom turningPoints lastOf
+turning-points-walk kill prev [] b h = agree-refl
+turning-points-walk kill prev (p ∷ []) b h = agree-refl
+turning-points-walk kill prev (p ∷ q ∷ ps) b h =
+    let falls = fallsTo p (lastOf q ps) in
+    let one = point kill (sellsFirst falls prev p) p b in
+    rw (turnsFrom-last p q ps p)
+    (agree-andThen one
+    (turns-agree kill falls (last.At p) p q ps (one .book) (point-settled kill (sellsFirst falls prev p) p b h)))

@@ -29,6 +29,7 @@ use Rattle.book.specs.Lists.{headOr0, isNone, isSome, rising, every, sam
 use Rattle.book.specs.Path.{closed}
 use Rattle.error.specs.Questions.{firstNo, decide}
 use Rattle.book.specs.Store.{PathOutcome, stored, storedBook, emptyBook, layOut, named, lookup, isPending, withinWatermark, notTriggered, admissionQuestions, admitted, newEntry, pathAfterAdmission, admit}
+use Rattle.book.specs.TurningPoints.{turnsAt, turnsFrom, turningPoints}
 use Rattle.book.specs.Words.{nextIn, chainIndices, header, recordWords, recordsWords, layout, cell, recordWord, kindOf, sideFrom, entryAt, slotAt, slotsAt, freeFrom, bookOf, consistent, soundStop, differs, allDiffer, vacantIndices, valid, areWords, wellFormed, dataWords, afterByStop, afterByWatermark, withLinks}
 use Rattle.book.specs.declared.Elected.{Elected}
 use Rattle.book.specs.declared.LastPrice.{LastPrice}
@@ -130,6 +131,10 @@ turningStore =
     ∷ 2 ∷ 0 ∷ 7 ∷ 1 ∷ 95 ∷ 100 ∷ 5 ∷ 1 ∷ 0 ∷ 0 ∷ 0 ∷ 0 ∷ 0 ∷ 0 ∷ 0
     ∷ []
 
+-- its turning points are 100, 110, 100
+longerRun : List Price
+longerRun = map price (100 ∷ 104 ∷ 110 ∷ 110 ∷ 107 ∷ 104 ∷ 100 ∷ [])
+
 -- a sell and a buy that a print at 100 elects
 bothStore : List ℕ
 bothStore =
@@ -172,6 +177,9 @@ topRun = price (2 ^ 64 - 9) ∷ price (2 ^ 64 - 5) ∷ price (2 ^ 64 - 2) ∷ []
 forecastLeft : List ℕ
 forecastLeft = 2 ∷ 0 ∷ 2 ∷ 0 ∷ 0 ∷ 0 ∷ 0 ∷ 0 ∷ 2 ∷ (replicate 24 0 ++ (1 ∷ replicate 5 0))
 
+turningLeft : List ℕ
+turningLeft = 1 ∷ 0 ∷ 1 ∷ 0 ∷ 0 ∷ 0 ∷ 0 ∷ 0 ∷ 1 ∷ replicate 15 0
+
 sellLine : List ℕ
 sellLine = 2 ∷ 0 ∷ 7 ∷ 1 ∷ 100 ∷ 1 ∷ 0 ∷ 100 ∷ []
 
@@ -209,10 +217,14 @@ table =
     ((1 ∷ 0 ∷ 2 ∷ []) ∷ forecastLeft
     ∷ (2 ∷ 0 ∷ 7 ∷ 1 ∷ 98 ∷ 1 ∷ 0 ∷ 94 ∷ []) ∷ (2 ∷ 0 ∷ 9 ∷ 1 ∷ 95 ∷ 1 ∷ 1 ∷ 94 ∷ []) ∷ [])
     ∷ example (walkLines (walkOver turningStore (100 ∷ 110 ∷ 100 ∷ [])))
-    ((1 ∷ 1 ∷ 1 ∷ []) ∷ (1 ∷ 0 ∷ 1 ∷ 0 ∷ 0 ∷ 0 ∷ 0 ∷ 0 ∷ 1 ∷ replicate 15 0) ∷ (2 ∷ 0 ∷ 7 ∷ 1 ∷ 105 ∷ 1 ∷ 0 ∷ 100 ∷ [])
-    ∷ [])
+    ((1 ∷ 1 ∷ 1 ∷ []) ∷ turningLeft ∷ (2 ∷ 0 ∷ 7 ∷ 1 ∷ 105 ∷ 1 ∷ 0 ∷ 100 ∷ []) ∷ [])
     ∷ example (segmentLines (segmentOver turningStore last.None 100 100))
     ((1 ∷ 0 ∷ 0 ∷ []) ∷ turningStore ∷ [])
+    -- a run and its turning points: two moves and a trigger of 104, one move and a trigger of 100
+    ∷ example (walkLines (walkCall plain last.None longerRun turningStore 1))
+    ((1 ∷ 2 ∷ 1 ∷ []) ∷ turningLeft ∷ (2 ∷ 0 ∷ 7 ∷ 1 ∷ 105 ∷ 1 ∷ 0 ∷ 104 ∷ []) ∷ [])
+    ∷ example (walkLines (walkCall plain last.None (turningPoints longerRun) turningStore 1))
+    ((1 ∷ 1 ∷ 1 ∷ []) ∷ turningLeft ∷ (2 ∷ 0 ∷ 7 ∷ 1 ∷ 105 ∷ 1 ∷ 0 ∷ 100 ∷ []) ∷ [])
     ∷ example (map line (segmentOver bothStore last.None 100 101 .elected)) (buyLine ∷ sellLine ∷ [])
     ∷ example (map line (segmentOver bothStore last.None 100 100 .elected)) (sellLine ∷ buyLine ∷ [])
     ∷ example (map line (segmentOver bothStore (last.At (price 101)) 100 101 .elected)) (sellLine ∷ buyLine ∷ [])
@@ -236,5 +248,5 @@ expected : List (List (List ℕ))
 expected = map (λ e. e .expected) table
 
 examples : found ≡ expected
-unfolding price sequential terms plain collared closedPath admitFor admitInto segmentOver walkOver toldSeq toldCounts line limitLine movedLine segmentLines walkLines admissionLines laidOut forecastStore turningStore bothStore tiesStore topStore lowStore topRun forecastLeft sellLine buyLine example table found expected before lexicographic withIndex gather insertBy sortBy ofSide pendingOn chain indices pendingCount headOr0 isNone rising every sameList nextIn chainIndices header recordWords dataWords afterByStop afterByWatermark withLinks recordsWords layout cell recordWord kindOf sideFrom entryAt slotAt slotsAt freeFrom bookOf consistent soundStop differs allDiffer vacantIndices valid areWords wellFormed sameId onTick behind beyond inconsistencyOf inconsistencyNumber candidate tightened ratcheted trailedAt elects electedAt electedEntry limitUnder limitFor limitPrice twoWords limitPresent limitHigh limitLow electedEntries countsOf pendingIn segmentQuestions segmentCall walkQuestions walkCall trailed leaves vacatedIf settled leavingOn leaver electedOn electedBy freed changedOn mover movedEntry movedOn movedBy fillAt point sellsFirst fallsTo andThen walkFrom segment lastOf walk firstNo decide stored storedBook emptyBook layOut named lookup isSome isPending withinWatermark notTriggered admissionQuestions admitted newEntry pathAfterAdmission admit closed
+unfolding price sequential terms plain collared closedPath admitFor admitInto segmentOver walkOver toldSeq toldCounts line limitLine movedLine segmentLines walkLines admissionLines laidOut forecastStore turningStore bothStore tiesStore topStore lowStore topRun longerRun forecastLeft turningLeft turnsAt turnsFrom turningPoints sellLine buyLine example table found expected before lexicographic withIndex gather insertBy sortBy ofSide pendingOn chain indices pendingCount headOr0 isNone rising every sameList nextIn chainIndices header recordWords dataWords afterByStop afterByWatermark withLinks recordsWords layout cell recordWord kindOf sideFrom entryAt slotAt slotsAt freeFrom bookOf consistent soundStop differs allDiffer vacantIndices valid areWords wellFormed sameId onTick behind beyond inconsistencyOf inconsistencyNumber candidate tightened ratcheted trailedAt elects electedAt electedEntry limitUnder limitFor limitPrice twoWords limitPresent limitHigh limitLow electedEntries countsOf pendingIn segmentQuestions segmentCall walkQuestions walkCall trailed leaves vacatedIf settled leavingOn leaver electedOn electedBy freed changedOn mover movedEntry movedOn movedBy fillAt point sellsFirst fallsTo andThen walkFrom segment lastOf walk firstNo decide stored storedBook emptyBook layOut named lookup isSome isPending withinWatermark notTriggered admissionQuestions admitted newEntry pathAfterAdmission admit closed
 examples = refl

@@ -1,5 +1,6 @@
 pub mod Accepted
 pub mod Agreement
+pub mod AlikeOutcomes
 pub mod AlikeStores
 pub mod Answers
 pub mod BySequence
@@ -35,6 +36,7 @@ pub mod Lookup
 pub mod Members
 pub mod Operations
 pub mod SortedParts
+pub mod OneWay
 pub mod Passes
 pub mod Places
 pub mod Points
@@ -50,5 +52,11 @@ pub mod Sort
 pub mod Soundness
 pub mod Stops
 pub mod Tests
+pub mod TurningExamples
+pub mod TurningPoints
+pub mod TurningPointsCall
+pub mod TurnsAgain
+pub mod TurnsByNeighbours
+pub mod TurnsDecide
 pub mod Validity
 pub mod WellFormed

@@ -21,6 +21,7 @@ use Rattle.book.specs.Collect.{CollectOutcome, collect, massCancel}
 use Rattle.book.specs.Ladder.{LadderOutcome, ladder}
 use Rattle.error.specs.Questions.{decide}
 use Rattle.book.specs.Store.{StoreOutcome, PathOutcome, layOut, clear, admit, cancelFound, cancel, cancels, changeFound, updateFound, update, lookup}
+use Rattle.book.specs.TurningPoints.{TurningPointsOutcome, turningPointsCall}
 use Rattle.book.specs.Words.{bookOf}
 use Rattle.book.specs.declared.LastPrice.{LastPrice}
 use Rattle.book.specs.declared.OrderUpdate.{OrderUpdate}
@@ -119,6 +120,13 @@ pub ladder-refused : (prices : List Price) (w : List ℕ) (list : ℕ) → Refus
 unfolding ladder
 ladder-refused prices w list r =
     decide-refused (λ (o : LadderOutcome). o .answer) (λ o. o .listed ≡ []) _ _ _ r (λ k. refl)
+    (λ q. absurd (accepted-refused _ q))
+
+pub turningPointsCall-refused : (prices : List Price) (list : ℕ) → Refused (turningPointsCall prices list .answer)
+    → turningPointsCall prices list .listed ≡ []
+unfolding turningPointsCall
+turningPointsCall-refused prices list r =
+    decide-refused (λ (o : TurningPointsOutcome). o .answer) (λ o. o .listed ≡ []) _ _ _ r (λ k. refl)
     (λ q. absurd (accepted-refused _ q))
 
 module _ (s : Settings) (w : List ℕ) (elected : ℕ) where

@@ -15,5 +15,6 @@ pub mod Script
 pub mod Sizes
 pub mod Steps
 pub mod Store
+pub mod TurningPoints
 pub mod Valid
 pub mod Words

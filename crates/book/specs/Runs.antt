@@ -1,4 +1,5 @@
--- The words of demand 3: runs that never fall or never rise, and elected entries that are alike.
+-- The words of document 01's demand 3 and of document 02, Five: runs that never fall or never rise, elected entries that
+-- are alike, and runs that a shorter one decides.
 use Prim.Native.Nat.{ℕ, _≤_}
 use mathlib.Core.Bool.{Bool}
 use mathlib.Core.List.{List, [], _∷_, map}
@@ -25,7 +26,8 @@ abbrev pub Monotone : Side → Price → List Price → Type 0
 Monotone d p [] = Unit {0}
 Monotone d p (q ∷ qs) = Goes d (p .0) (q .0) × Monotone d q qs
 
--- what segment and walk must agree in: all of an elected entry but its trigger price; a limit has both of its words
+-- what the evaluations of a run and of a shorter one must agree in: all of an elected entry but its trigger price; a
+-- limit has both of its words
 pub record Likeness : Type 0 where
   pub id : Id
   pub side : Side
@@ -48,15 +50,23 @@ likeness e = record {
   pending = e .pending;
 }
 
--- Demand 3, of the segment over a run's ends and the walk over the run: neither is refused; both answer the same number
--- elected, and list that many; their elected entries are alike, entry by entry; and the two stores are equal in every
--- word
-pub record DecidedByEnds (ends : SegmentOutcome) (run : WalkOutcome) : Type 0 where
+-- A shorter run decides a run: neither evaluation is refused; both answer the same number elected, and list that many;
+-- their elected entries are alike, entry by entry; and the two stores are equal in every word. How often stops moved is
+-- not compared
+pub record DecidedAlike (shorter run : WalkOutcome) : Type 0 where
   pub elected : ℕ
   pub moves : ℕ
   pub steps : ℕ
-  pub ends-answer : ends .answer ≡ accepted (record { moves = moves; elected = elected })
+  pub shorter-answer : shorter .answer ≡ accepted (record { moves = moves; elected = elected })
   pub run-answer : run .answer ≡ accepted (record { moves = steps; elected = elected })
-  pub listed : length (ends .elected) ≡ elected
-  pub alike : map likeness (ends .elected) ≡ map likeness (run .elected)
-  pub stores : ends .words ≡ run .words
+  pub listed : length (shorter .elected) ≡ elected
+  pub alike : map likeness (shorter .elected) ≡ map likeness (run .elected)
+  pub stores : shorter .words ≡ run .words
+
+-- a segment's outcome without its moves
+abbrev pub withoutMoved : SegmentOutcome → WalkOutcome
+withoutMoved o = record { answer = o .answer; words = o .words; elected = o .elected }
+
+-- demand 3, of the segment over a run's ends and the walk over the run
+abbrev pub DecidedByEnds : SegmentOutcome → WalkOutcome → Type 0
+DecidedByEnds ends run = DecidedAlike (withoutMoved ends) run

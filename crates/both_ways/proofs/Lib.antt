@@ -1,1 +1,2 @@
+pub mod AlikeWords
 pub mod EndsAndRun

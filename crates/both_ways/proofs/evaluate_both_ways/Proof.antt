@@ -16,7 +16,7 @@ returns c =
     let all =
     decided (g .settings) (g .prev) (map toPrice (g .prices .now)) (g .ends .now) (g .run .now) (g .elected .now)
     (g .moved .now) (g .listed .now)
-    _ _ _ _ _ _ (d .0) (d .1) (d .2) (e .0) (e .1) (e .2) in
+    _ _ _ _ _ _ (record { answers = d .0; words = d .1; lists = d .2 }) (record { answers = e .0; words = e .1; lists = e .2 }) in
     (all, (d, e))
 
 pub evaluate-both-ways-spec : {M : Type 1} → statement M

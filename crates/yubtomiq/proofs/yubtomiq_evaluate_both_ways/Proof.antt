@@ -18,8 +18,8 @@ returns c =
     let e = w .yubtomiq-walk .ensures in
     let all =
     decided (settingsOf (g .settings .now)) (lastPriceOf (g .prev .now)) (map toPrice (g .prices .now)) (g .ends .now)
-    (g .run .now) (g .elected .now) (g .moved .now) (g .listed .now) _ _ _ _ _ _ refl (d .1) (d .2) refl (e .1)
-    (e .2) in
+    (g .run .now) (g .elected .now) (g .moved .now) (g .listed .now) _ _ _ _ _ _
+    (record { answers = refl; words = d .1; lists = d .2 }) (record { answers = refl; words = e .1; lists = e .2 }) in
     (all, both-told _ _ _ _ _ _ (d .0) (e .0), d .1, d .2, d .3, e .1, e .2)
 
 pub yubtomiq-evaluate-both-ways-spec : {M : Type 1} → statement M
