@@ -42,9 +42,9 @@ enum yubtomiq_refusal {
     YUBTOMIQ_SEQUENCE_EXHAUSTED = 11,
     YUBTOMIQ_ORDER_NOT_FOUND = 12,
     YUBTOMIQ_SAME_PRICE = 13,              /* a change of the price alone, to the price that it is */
-    YUBTOMIQ_LIST_TOO_SHORT = 14,          /* elected, collected and of a ladder: the pending count; moved, of a segment: twice that */
+    YUBTOMIQ_LIST_TOO_SHORT = 14,          /* elected, collected and of a ladder: the pending count; moved, of a segment: twice that; turning points: the number of prices */
     YUBTOMIQ_INVALID_SCRIPT = 15,          /* no whole entries, or a flag that is not 0 or 1 */
-    YUBTOMIQ_PRICE_COUNT_OUT_OF_RANGE = 16, /* prices of a walk: 1 to 4,096 */
+    YUBTOMIQ_PRICE_COUNT_OUT_OF_RANGE = 16, /* prices of a run: 1 to 4,096 */
     YUBTOMIQ_ZERO_COLLAR = 17,
     YUBTOMIQ_COLLAR_OFF_TICK = 18,
     YUBTOMIQ_TRIAL_PRICE_COUNT_OUT_OF_RANGE = 19, /* prices of a ladder: 1 to 64 */
@@ -77,6 +77,9 @@ enum yubtomiq_selector_kind {
 #define YUBTOMIQ_HOLDER_WORDS 4
 #define YUBTOMIQ_SELECTOR_WORDS (1 + YUBTOMIQ_HOLDER_WORDS)
 #define YUBTOMIQ_COLLECTED_WORDS (YUBTOMIQ_RECORD_WORDS - 2)
+
+/* The most prices of a run. */
+#define YUBTOMIQ_MOST_PRICES 4096
 
 /* The most trial prices of a ladder, and the place of the first where none elects a stop. */
 #define YUBTOMIQ_MOST_TRIAL_PRICES 64
@@ -195,6 +198,14 @@ typedef struct yubtomiq_both_ways {
     yubtomiq_counts run;
 } yubtomiq_both_ways;
 
+/* What a run of prices and its turning points give: of each walk the number, and the counts, which are 0 where it was refused. */
+typedef struct yubtomiq_both_runs {
+    uint64_t turns_number;
+    yubtomiq_counts turns;
+    uint64_t run_number;
+    yubtomiq_counts run;
+} yubtomiq_both_runs;
+
 typedef struct yubtomiq_pass_counts {
     uint64_t moves, elected, used;
 } yubtomiq_pass_counts;
@@ -292,6 +303,22 @@ void yubtomiq_evaluate_both_ways(uint64_t *ends, size_t ends_count, uint64_t *ru
                                  const yubtomiq_settings *settings, const yubtomiq_price *prev, const uint64_t *prices,
                                  size_t price_count, yubtomiq_elected *elected, size_t elected_count, yubtomiq_moved *moved,
                                  size_t moved_count, yubtomiq_elected *listed, size_t listed_count, yubtomiq_both_ways *answer);
+
+/* Writes the turning points of a run: its first price, each high and low at which its direction changes, one for a level stretch, and its last; of a
+ * run of one price, that price. They are never more than the prices, so that a list as long as the run is enough, and asked for; later places of the
+ * list stay. `listed` is how many there are. A walk over them does to a store what the walk over the run does: see yubtomiq_evaluate_both_runs.
+ * Refused: 16, 14. */
+uint64_t yubtomiq_turning_points(const uint64_t *prices, size_t price_count, uint64_t *list, size_t list_count, uint64_t *listed);
+
+/* A run of prices on two stores: on `turned` by a walk over its turning points, which are written to `turns` (yubtomiq_turning_points says how many
+ * they are), on `run` by a walk over the run. Each may be refused by itself, the first as turning points are too, and then leaves its store and list.
+ * Proved: where the stores are equal and well formed, the prices are 1 to 4,096, and the lists are as long as the calls ask, neither is refused, both
+ * list the same stops in the same order, alike but for their trigger prices, and the stores are equal again in every word. How often stops move may
+ * differ. */
+void yubtomiq_evaluate_both_runs(uint64_t *turned, size_t turned_count, uint64_t *run, size_t run_count,
+                                 const yubtomiq_settings *settings, const yubtomiq_price *prev, const uint64_t *prices,
+                                 size_t price_count, uint64_t *turns, size_t turns_count, yubtomiq_elected *elected,
+                                 size_t elected_count, yubtomiq_elected *listed, size_t listed_count, yubtomiq_both_runs *answer);
 
 /* A pass: segments from a queue, at first this one. The script is lent as its words, five to an entry. Refused: 1, 14, 15. */
 uint64_t yubtomiq_evaluate_pending_stops(uint64_t *words, size_t count, const yubtomiq_settings *settings, const uint64_t *script,

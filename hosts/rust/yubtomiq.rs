@@ -21,6 +21,9 @@ pub const ELECTED_WORDS: usize = 14;
 pub const MOVED_WORDS: usize = 4;
 pub const LADDER_WORDS: usize = 3;
 
+/// The most prices of a run.
+pub const MOST_PRICES: usize = 4096;
+
 /// The most trial prices of a ladder.
 pub const MOST_TRIAL_PRICES: usize = 64;
 
@@ -128,6 +131,30 @@ pub mod library {
             elected_count: usize,
             moved: *mut MovedWords,
             moved_count: usize,
+            listed: *mut ElectedWords,
+            listed_count: usize,
+            answer: &mut [u64; 6],
+        );
+        pub fn yubtomiq_turning_points(
+            prices: *const u64,
+            price_count: usize,
+            list: *mut u64,
+            list_count: usize,
+            answer: &mut [u64; 1],
+        ) -> u64;
+        pub fn yubtomiq_evaluate_both_runs(
+            turned: *mut u64,
+            turned_count: usize,
+            run: *mut u64,
+            run_count: usize,
+            settings: &[u64; 4],
+            prev: &[u64; 2],
+            prices: *const u64,
+            price_count: usize,
+            turns: *mut u64,
+            turns_count: usize,
+            elected: *mut ElectedWords,
+            elected_count: usize,
             listed: *mut ElectedWords,
             listed_count: usize,
             answer: &mut [u64; 6],
@@ -638,6 +665,13 @@ pub struct BothWays {
     pub run: Result<Walk, Refusal>,
 }
 
+/// What a run of prices gives by a walk over its turning points, and by a walk over the run.
+#[derive(Clone, Debug, PartialEq, Eq)]
+pub struct BothRuns {
+    pub turns: Result<Walk, Refusal>,
+    pub run: Result<Walk, Refusal>,
+}
+
 /// What a pass did, and how many script entries it used.
 #[derive(Clone, Debug, PartialEq, Eq)]
 pub struct Pass {
@@ -942,6 +976,59 @@ pub fn evaluate_both_ways(
     let [number, moves, count, walked, steps, listed_count] = answer;
     BothWays {
         ends: done(number, ()).map(|()| Segment::of(&moved[..moves as usize], &elected[..count as usize])),
+        run: done(walked, ()).map(|()| Walk::of(steps, &listed[..listed_count as usize])),
+    }
+}
+
+/// The turning points of a run of 1 to 4,096 prices: its first price, each high and low at which its direction changes, one for a level stretch, and its
+/// last; of a run of one price, that price. A walk over them elects what the walk over the run elects, and leaves the same store.
+pub fn turning_points(prices: &[u64]) -> Result<Vec<u64>, Refusal> {
+    let mut list = vec![0; prices.len()];
+    let mut answer = [0; 1];
+    let number = unsafe {
+        library::yubtomiq_turning_points(prices.as_ptr(), prices.len(), list.as_mut_ptr(), list.len(), &mut answer)
+    };
+    done(number, answer).map(|[listed]| {
+        list.truncate(listed as usize);
+        list
+    })
+}
+
+/// A run of prices on two stores: on `turned` by a walk over its turning points, on `run` by a walk over the run. Of two equal stores both elect the
+/// same stops, in the same order, and leave the stores equal.
+pub fn evaluate_both_runs(
+    turned: &mut Store,
+    run: &mut Store,
+    settings: Settings,
+    prev: Option<u64>,
+    prices: &[u64],
+) -> BothRuns {
+    let mut turns = vec![0; prices.len()];
+    let mut elected = turned.list();
+    let mut listed = run.list();
+    let mut answer = [0; 6];
+    unsafe {
+        library::yubtomiq_evaluate_both_runs(
+            turned.words.as_mut_ptr(),
+            turned.words.len(),
+            run.words.as_mut_ptr(),
+            run.words.len(),
+            &settings.words(),
+            &price_words(prev),
+            prices.as_ptr(),
+            prices.len(),
+            turns.as_mut_ptr(),
+            turns.len(),
+            elected.as_mut_ptr(),
+            elected.len(),
+            listed.as_mut_ptr(),
+            listed.len(),
+            &mut answer,
+        )
+    };
+    let [number, moves, count, walked, steps, listed_count] = answer;
+    BothRuns {
+        turns: done(number, ()).map(|()| Walk::of(moves, &elected[..count as usize])),
         run: done(walked, ()).map(|()| Walk::of(steps, &listed[..listed_count as usize])),
     }
 }

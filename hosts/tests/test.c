@@ -228,6 +228,40 @@ static void tried(void) {
     same_words("the store stays", words, before, LENT);
 }
 
+/* Turning points: level stretches, both ends of the price range, refusals in their order, and places that stay. */
+static void turned(void) {
+    enum { LONG = YUBTOMIQ_MOST_PRICES + 1 };
+    static uint64_t prices[LONG], list[LONG];
+    const uint64_t run[9] = {3, 3, 1, 1, 1, 4, 4, 2, 2}, points[4] = {3, 1, 4, 2}, level[3] = {5, 5, 5};
+    uint64_t listed = 99;
+    list[0] = 7;
+    same("turning points, no price", yubtomiq_turning_points(run, 0, list, 0, &listed), 16);
+    same("turning points, too many prices", yubtomiq_turning_points(prices, LONG, list, LONG, &listed), 16);
+    same("turning points, short", yubtomiq_turning_points(run, 9, list, 8, &listed), 14);
+    same("the number of turning points stays", listed, 99);
+    same("the list of turning points stays", list[0], 7);
+    list[4] = 8;
+    same("turning points", yubtomiq_turning_points(run, 9, list, 9, &listed), 0);
+    same("turning points, how many", listed, 4);
+    same_words("turning points, which", list, points, 4);
+    same("turning points, the next place stays", list[4], 8);
+    same("turning points, level", yubtomiq_turning_points(level, 3, list, 3, &listed), 0);
+    same("turning points, level: how many", listed, 2);
+    same_words("turning points, level: which", list, level, 2);
+    same("turning points, one price", yubtomiq_turning_points(level, 1, list, 1, &listed), 0);
+    same("turning points, one price: how many", listed, 1);
+    for (size_t i = 0; i < LONG; i++)
+        prices[i] = i % 2 ? UINT64_MAX : 0;
+    same("turning points, the most", yubtomiq_turning_points(prices, LONG - 1, list, LONG, &listed), 0);
+    same("turning points, the most: how many", listed, LONG - 1);
+    same_words("turning points, the most: which", list, prices, LONG - 1);
+    for (size_t i = 0; i < LONG; i++)
+        prices[i] = i;
+    same("turning points, rising", yubtomiq_turning_points(prices, LONG - 1, list, LONG - 1, &listed), 0);
+    same("turning points, rising: how many", listed, 2);
+    same("turning points, rising: the last", list[1], LONG - 2);
+}
+
 /* Collect and mass cancel: by each selector, the lists, and what is left. */
 static void collected(void) {
     uint64_t words[LENT], before[LENT], listed = 99;
@@ -311,7 +345,7 @@ static yubtomiq_elected elected_list[MOST], other_list[MOST];
 static yubtomiq_moved moved_list[2 * MOST];
 static yubtomiq_stop stop_list[MOST];
 static yubtomiq_ladder_entry ladder_list[MOST];
-static uint64_t falling_ladder[YUBTOMIQ_MOST_TRIAL_PRICES];
+static uint64_t falling_ladder[YUBTOMIQ_MOST_TRIAL_PRICES], zigzag[YUBTOMIQ_MOST_PRICES], turn_list[YUBTOMIQ_MOST_PRICES];
 static yubtomiq_script_entry script[MOST];
 
 static void values(void) {
@@ -355,7 +389,7 @@ static void fill(uint64_t words[FULL]) {
     }
 }
 
-/* The calls at their worst, on a full store: searches to the end of a chain, all elected at one print, a pass of as many segments, all collected, a ladder of all. */
+/* The calls at their worst, on a full store: searches to the end of a chain, all elected at one print, a pass of as many segments, all collected, a ladder of all, a run that turns at each price. */
 static void *worst(void *unused) {
     yubtomiq_path path = {0, 0, 0, 0};
     yubtomiq_id last = sequential(MOST), absent = sequential(MOST + 1);
@@ -367,6 +401,7 @@ static void *worst(void *unused) {
     yubtomiq_found found;
     yubtomiq_stop stop;
     yubtomiq_both_ways both;
+    yubtomiq_both_runs runs;
     yubtomiq_selector selector = yubtomiq_by_price_range(0, UINT64_MAX);
     uint64_t sequence, listed, falling[2] = {10000, 1};
     (void)unused;
@@ -395,6 +430,18 @@ static void *worst(void *unused) {
     same("both ways, elected by the ends", both.ends.elected, MOST);
     same("both ways, elected by the run", both.run.elected, MOST);
     same_words("both ways, stores", full, other, FULL);
+    fill(full);
+    fill(other);
+    for (size_t i = 0; i < YUBTOMIQ_MOST_PRICES; i++)
+        zigzag[i] = i % 2 ? 10001 : 10000 - i / 2;
+    yubtomiq_evaluate_both_runs(full, FULL, other, FULL, &PLAIN, &NONE, zigzag, YUBTOMIQ_MOST_PRICES, turn_list, YUBTOMIQ_MOST_PRICES,
+                                elected_list, MOST, other_list, MOST, &runs);
+    same("both runs, by the turns", runs.turns_number, 0);
+    same("both runs, by the run", runs.run_number, 0);
+    same("both runs, elected by the turns", runs.turns.elected, MOST);
+    same("both runs, elected by the run", runs.run.elected, MOST);
+    same_words("both runs, stores", full, other, FULL);
+    same_words("both runs, all turns", turn_list, zigzag, YUBTOMIQ_MOST_PRICES);
     fill(full);
     same("collect, all", yubtomiq_collect(full, FULL, &selector, stop_list, MOST, &listed), 0);
     same("collect, how many", listed, MOST);
@@ -440,6 +487,7 @@ int main(void) {
     answers();
     collected();
     tried();
+    turned();
     path_and_run();
     values();
     printf("test.c: %d checks, %d failed\n", made, failed);

@@ -389,6 +389,38 @@ fn both_ways(c: &mut Checks) {
     c.same("both ways, refused: the run's store", run.words(), whole.words());
 }
 
+/// Turning points, and a run that turns on two equal stores, by them and by all prices: the same stops in the same order, and equal stores after.
+fn both_runs(c: &mut Checks) {
+    c.same("turning points", turning_points(&[3, 3, 1, 1, 1, 4, 4, 2, 2]), Ok(vec![3, 1, 4, 2]));
+    c.same("turning points, level", turning_points(&[5, 5, 5]), Ok(vec![5, 5]));
+    c.same("turning points, one price", turning_points(&[MAX]), Ok(vec![MAX]));
+    c.same("turning points, both ends", turning_points(&[0, MAX, MAX, 0, 0]), Ok(vec![0, MAX, 0]));
+    c.same("turning points, most", turning_points(&[7; MOST_PRICES]), Ok(vec![7, 7]));
+    c.refused(turning_points(&[]), Refusal::PriceCountOutOfRange);
+    c.refused(turning_points(&[7; MOST_PRICES + 1]), Refusal::PriceCountOutOfRange);
+    let stops = [sell(95, 100, 5), sell(90, 100, 10), buy(110, 100, 10), sell(97, 100, 3)];
+    let whole = store(4, 0, &stops);
+    let (mut turned, mut run) = (whole.clone(), whole.clone());
+    let both = evaluate_both_runs(&mut turned, &mut run, Settings::default(), Some(100), &[99, 102, 104, 104, 101, 98, 98, 105, 111]);
+    let (by_turns, by_run) = (both.turns.expect("a walk"), both.run.expect("a walk"));
+    let alike = |elected: &[Elected]| elected.iter().map(|e| Elected { trigger: 0, ..*e }).collect::<Vec<Elected>>();
+    c.same("both runs, elected", alike(&by_turns.elected), alike(&by_run.elected));
+    c.same("both runs, how many", by_run.elected.len(), 3);
+    c.same("both runs, trigger by the turns", by_turns.elected[0].trigger, 98);
+    c.same("both runs, trigger by the run", by_run.elected[0].trigger, 101);
+    c.same("both runs, moves", (by_turns.moves, by_run.moves), (6, 10));
+    c.same("both runs, stores", turned.words(), run.words());
+    let (mut turned, mut run) = (whole.clone(), Store::from_words(vec![1, 2, 3]));
+    let both = evaluate_both_runs(&mut turned, &mut run, Settings::default(), None, &[99]);
+    c.same("both runs, one store damaged: the turns", both.turns.is_ok(), true);
+    c.refused(both.run, Refusal::StoreNotWellFormed);
+    let (mut turned, mut run) = (whole.clone(), whole.clone());
+    let both = evaluate_both_runs(&mut turned, &mut run, Settings::default(), None, &[]);
+    c.refused(both.turns, Refusal::PriceCountOutOfRange);
+    c.refused(both.run, Refusal::PriceCountOutOfRange);
+    c.same("both runs, refused: the stores", (turned.words(), run.words()), (whole.words(), whole.words()));
+}
+
 fn main() {
     let mut c = Checks::default();
     terms_examples(&mut c);
@@ -403,6 +435,7 @@ fn main() {
     turning_example(&mut c);
     run_and_ends(&mut c);
     both_ways(&mut c);
+    both_runs(&mut c);
     limits_above_the_top(&mut c);
     moved_list(&mut c);
     passes(&mut c);

@@ -20,6 +20,7 @@ use Rattle.book.specs.declared.PassCounts.{PassCounts}
 use Rattle.book.specs.Calls as calls
 use Rattle.book.specs.Collect.{CollectOutcome, collect, massCancel}
 use Rattle.book.specs.Ladder.{LadderOutcome, ladder}
+use Rattle.book.specs.TurningPoints.{TurningPointsOutcome, turningPointsCall}
 use Rattle.book.specs.Path.{recorded, closed, take}
 use Rattle.book.specs.Store.{StoreOutcome, PathOutcome, admit, cancel, clear, find}
 use Rattle.book.specs.Store as store
@@ -86,6 +87,12 @@ massCancelByWords selector w list =
 
 abbrev pub ladderByWords : List ℕ → List ℕ → ℕ → LadderOutcome
 ladderByWords prices w list = ladder (map toPrice prices) w list
+
+------------------------------------------------------------------------
+-- A run of prices
+
+abbrev pub turningPointsByWords : List ℕ → ℕ → TurningPointsOutcome
+turningPointsByWords prices list = turningPointsCall (map toPrice prices) list
 
 ------------------------------------------------------------------------
 -- The print path

@@ -81,6 +81,10 @@ pub use ladder::ladder;
 // The pending quantity of each side. The store is only read. Refused: it is not well formed (1).
 pub use store_calls::pending_stop_quantity;
 
+// Lists the turning points of a run: its first price, each at which it turns, and its last. Refused: not 1 to 4,096 prices
+// (16); fewer places than prices (14).
+pub use turning_points::turning_points;
+
 // The stop price that a market price leads to, if it improves. Nothing is lent.
 pub use repricing::calculate_trailing_stop_price;
 

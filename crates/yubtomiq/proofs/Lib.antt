@@ -1,1 +1,2 @@
+pub mod BothRuns
 pub mod BothWays

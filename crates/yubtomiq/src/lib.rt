@@ -18,12 +18,13 @@ ghost use Rattle.book.specs.Words.{wellFormed};
 ghost use Rattle.book.specs.Entries.{electedWords, movedWords, stopWords};
 ghost use Rattle.book.specs.Ladder.{ladderWords};
 ghost use Rattle.stop_protection.specs.Collar.{tryNew, limitWords};
-ghost use Rattle.pricelevel.specs.Price.{toPrice};
+ghost use Rattle.pricelevel.specs.Price.{toPrice, priceWord};
+ghost use Rattle.both_runs.specs.Turns as runs;
 ghost use Rattle.both_ways.specs.Alike.{Decided};
 ghost use Rattle.both_ways.specs.Ends.{Comparable};
-ghost use Rattle.yubtomiq.specs.BothWays.{endsByWords, wayWords};
+ghost use Rattle.yubtomiq.specs.BothWays.{endsByWords, turnsByWords, wayWords};
 ghost use Rattle.host_words.specs.Answers.{Told, number, flag, seqWords, idWords, termsWords, segmentWords, foundWords, listedWords, totalsWords, countsWords, passWords, previewWords};
-ghost use Rattle.host_words.specs.ByWords.{admitByWords, clearByWords, cancelByWords, updateByWords, findByWords, collectByWords, massCancelByWords, ladderByWords, recordByWords, takeByWords, resetByWords, segmentByWords, walkByWords, passByWords, runByWords, trailedByWords, electedByWords, inconsistencyByWords, previewByWords, limitByWords, checkOf, childByWords};
+ghost use Rattle.host_words.specs.ByWords.{admitByWords, clearByWords, cancelByWords, updateByWords, findByWords, collectByWords, massCancelByWords, ladderByWords, turningPointsByWords, recordByWords, takeByWords, resetByWords, segmentByWords, walkByWords, passByWords, runByWords, trailedByWords, electedByWords, inconsistencyByWords, previewByWords, limitByWords, checkOf, childByWords};
 
 // ---------------------------------------------------------------------
 // The store
@@ -366,6 +367,86 @@ pub extern "C" fn yubtomiq_evaluate_both_ways(
     let number = over_ends(ends, settings, prev, prices, elected, moved, &mut first);
     let walked = yubtomiq_walk(run, settings, prev, prices, listed, &mut second);
     *answer = [number, first[0], first[1], walked, second[0], second[1]];
+}
+
+// Writes the turning points of a run: its first price, each high and low at which its direction changes, one for a level
+// stretch, and its last. Answers how many there are, never more than prices. A walk over them elects what the walk over
+// the run elects, and leaves the store that it leaves. Refused: 16, 14.
+#[no_mangle]
+pub extern "C" fn yubtomiq_turning_points(
+    prices: &[u64],
+    list: &mut [u64],
+    answer: &mut [u64; 1],
+) -> u64
+    ensures { λ r. ⌜ (let o = turningPointsByWords (now (prices .entry)) (length (now (list .entry))) in
+        Told listedWords (o .answer) (now (answer .entry)) r (now (answer .exit))
+        × (now (list .exit) ≡ written (map priceWord (o .listed)) (now (list .entry)))) ⌝ }
+{
+    host_turning_points::turning_points(prices, list, answer)
+}
+
+// A walk over a run's turning points, which are written to turns. Refused as these are, and as a walk is.
+fn over_turns(
+    s: &mut [u64],
+    settings: &[u64; 4],
+    prev: &[u64; 2],
+    prices: &[u64],
+    turns: &mut [u64],
+    elected: &mut [ElectedWords],
+    answer: &mut [u64; 2],
+) -> u64
+    ensures { λ r. ⌜ (let o = turnsByWords (now (settings .entry)) (now (prev .entry)) (now (prices .entry)) (length (now (turns .entry))) (now (s .entry))
+        (length (now (elected .entry))) in
+        let t = turningPointsByWords (now (prices .entry)) (length (now (turns .entry))) in
+        Told countsWords (o .answer) (now (answer .entry)) r (now (answer .exit))
+        × (now (s .exit) ≡ o .words)
+        × (now (elected .exit) ≡ written (map electedWords (o .elected)) (now (elected .entry)))
+        × (now (turns .exit) ≡ written (map priceWord (t .listed)) (now (turns .entry)))) ⌝ }
+{
+    let mut found = [0u64; 1];
+    let number = yubtomiq_turning_points(prices, turns, &mut found);
+    if number != 0 {
+        return number;
+    }
+    let n = found[0] as usize;
+    yubtomiq_walk(s, settings, prev, &turns[..n], elected, answer)
+}
+
+// A run of prices evaluated on one store by a walk over its turning points, which are written to turns, and on the other by
+// a walk over the run. Answers number, moves and elected of each; each may be refused by itself. Where the two stores are
+// equal and well formed, the run has 1 to 4,096 prices, and the lists are as long as the calls demand, neither is refused,
+// both list the same stops in the same order, alike but for their trigger prices, and the stores are equal again.
+#[no_mangle]
+pub extern "C" fn yubtomiq_evaluate_both_runs(
+    turned: &mut [u64],
+    run: &mut [u64],
+    settings: &[u64; 4],
+    prev: &[u64; 2],
+    prices: &[u64],
+    turns: &mut [u64],
+    elected: &mut [ElectedWords],
+    listed: &mut [ElectedWords],
+    answer: &mut [u64; 6],
+)
+    ensures { λ _. ⌜ (let o = turnsByWords (now (settings .entry)) (now (prev .entry)) (now (prices .entry)) (length (now (turns .entry))) (now (turned .entry))
+        (length (now (elected .entry))) in
+        let p = walkByWords (now (settings .entry)) (now (prev .entry)) (now (prices .entry)) (now (run .entry)) (length (now (listed .entry))) in
+        let t = turningPointsByWords (now (prices .entry)) (length (now (turns .entry))) in
+        (runs.Comparable (map toPrice (now (prices .entry))) (now (turned .entry)) (now (run .entry)) (length (now (turns .entry)))
+        (length (now (elected .entry))) (length (now (listed .entry)))
+        → Decided (o .answer) (p .answer) (now (turned .exit)) (now (run .exit)) (now (elected .exit)) (now (listed .exit)))
+        × (now (answer .exit) ≡ wayWords (o .answer) ++ wayWords (p .answer))
+        × (now (turned .exit) ≡ o .words)
+        × (now (elected .exit) ≡ written (map electedWords (o .elected)) (now (elected .entry)))
+        × (now (turns .exit) ≡ written (map priceWord (t .listed)) (now (turns .entry)))
+        × (now (run .exit) ≡ p .words)
+        × (now (listed .exit) ≡ written (map electedWords (p .elected)) (now (listed .entry)))) ⌝ }
+{
+    let mut first = [0u64; 2];
+    let mut second = [0u64; 2];
+    let shorter = over_turns(turned, settings, prev, prices, turns, elected, &mut first);
+    let whole = yubtomiq_walk(run, settings, prev, prices, listed, &mut second);
+    *answer = [shorter, first[0], first[1], whole, second[0], second[1]];
 }
 
 // ---------------------------------------------------------------------
