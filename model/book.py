@@ -380,6 +380,21 @@ def ladder(w, prices, room):
 
 
 # ---------------------------------------------------------------------
+# Turning points: of a run without its level stretches, the prices that lie above or below both neighbours
+
+def turning_points(prices, room):
+    """The number, how many are listed, and the first price, the turns, and the last, if there is a later one than the first."""
+    if not 1 <= len(prices) <= MOST_PRICES:
+        return 16, None, []
+    if room < len(prices):
+        return 14, None, []
+    uneven = [p for k, p in enumerate(prices) if k == 0 or p != prices[k - 1]]
+    turns = [p for before, p, after in zip(uneven, uneven[1:], uneven[2:]) if (before < p) == (after < p)]
+    listed = prices[:1] + turns + prices[1:][-1:]
+    return 0, [len(listed)], listed
+
+
+# ---------------------------------------------------------------------
 # The print path: open, prev present, prev, first
 
 def record_print(path, pending, prev, price):

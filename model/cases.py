@@ -10,6 +10,7 @@ import ladder_cases
 import preview_cases
 import session
 import store_cases
+import turning_cases
 
 CRATES = os.path.join(os.path.dirname(os.path.abspath(__file__)), "..", "crates")
 
@@ -21,5 +22,7 @@ def write(crate, lines, answers):
             out.write(text)
 
 
-write("call_cases", store_cases.lines() + evaluation_cases.lines() + preview_cases.lines() + ladder_cases.lines(), session.answers)
+CALLS = store_cases, evaluation_cases, preview_cases, ladder_cases, turning_cases
+
+write("call_cases", [line for cases in CALLS for line in cases.lines()], session.answers)
 write("forecast_cases", forecast.lines(), forecast.answers)

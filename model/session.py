@@ -125,6 +125,10 @@ class Session:
         number, answer, entries = book.ladder(w, n, self.rooms[2])
         return told(number, answer, 1) + listed("ladder", entries)
 
+    def turned(self, n):
+        number, answer, prices = book.turning_points(n, self.rooms[2])
+        return told(number, answer, 1) + ", turns" + "".join(f" {k}={price}" for k, price in enumerate(prices))
+
     def evaluated(self, w, name, n):
         settings, room = (n[0], n[1], n[2:4]), self.rooms[:2]
         if name == "segment":
@@ -152,6 +156,8 @@ class Session:
             line = self.collected(w, name, n)
         elif name == "ladder":
             line = self.tried(w, n)
+        elif name == "turns":
+            line = self.turned(n)
         else:
             line = (self.evaluated if name in ("segment", "walk", "pass", "run") else self.altered)(w, name, n)
         self.buffer[:self.size] = w
@@ -170,7 +176,7 @@ class Session:
             return self.of_path(name, n)
         if name in ("well_formed", "quantity", "find"):
             return self.asked(name, n)
-        if name in ("layout", "clear", "cancel", "admit", "update", "segment", "walk", "pass", "run", "collect", "mass_cancel", "ladder"):
+        if name in ("layout", "clear", "cancel", "admit", "update", "segment", "walk", "pass", "run", "collect", "mass_cancel", "ladder", "turns"):
             return self.on_store(name, n)
         return self.of_terms(name, n)
 

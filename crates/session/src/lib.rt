@@ -19,7 +19,7 @@
 //     segment SETTINGS PRINTS, walk SETTINGS MAYBE PRICE ..                SETTINGS: kill, collar, namespace high, low
 //     pass SETTINGS PRINTS SCRIPT, run SETTINGS MAYBE SCRIPT               PRINTS: MAYBE, first, last
 //     collect SELECTOR, mass_cancel SELECTOR                               SELECTOR: 0 HOLDER; 1 SIDE; 2 lowest, highest
-//     ladder PRICE ..
+//     ladder PRICE .., turns PRICE ..
 //
 // What a session lends, which its own lines set:
 //
@@ -29,7 +29,7 @@
 //     book TICK NEXT COUNT STOP ..   a store of one record more than the stops, each admitted under its sequence; a STOP
 //                       is ID, TERMS, quantity, sequence, HOLDER
 //     path W W W W      the print path
-//     lists N M K       lists of N elected and M moved, and of K entries for collect, mass_cancel and ladder
+//     lists N M K       lists of N elected and M moved, of K entries for collect, mass_cancel and ladder, of K places for turns
 //     show K            after a call on the store: 0 nothing; 1 the words that changed; 2 next sequence, pending
 //                       count, the stops that changed by rising sequence, and the sequence of each that is gone
 mod lending;

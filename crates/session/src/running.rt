@@ -17,10 +17,10 @@ fn alter(call: u64, s: &mut [u64], path: &mut [u64; 4], n: &[u64], desk: Desk) {
         session_lists::run(call, s, path, n, desk.elected, desk.moved);
         return;
     }
-    if call < names::LADDER {
-        session_lists::collect(call, s, n, desk.listed);
-    } else {
-        session_lists::ladder(&s[..], n, desk.listed);
+    match call {
+        names::LADDER => session_lists::ladder(&s[..], n, desk.listed),
+        names::TURNS => session_lists::turns(n, desk.listed),
+        _ => session_lists::collect(call, s, n, desk.listed),
     }
 }
 

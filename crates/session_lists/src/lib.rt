@@ -1,6 +1,6 @@
-// Lines that evaluate a store, collect its stops or try prices on them, and the lists that they lend: every word of these
-// is the same before a call, so that all that the call wrote is printed, and an entry behind the last that it lists as
-// well, should it write there.
+// Lines that evaluate a store, collect its stops, try prices on them or list turning points, and the lists that they
+// lend: every word of these is the same before a call, so that all that the call wrote is printed, and an entry behind
+// the last that it lists as well, should it write there.
 use crate::entries::entry;
 use book::ELECTED_WORDS;
 use book::ElectedWords;
@@ -22,9 +22,11 @@ use yubtomiq::yubtomiq_walk;
 mod collecting;
 mod entries;
 mod trying;
+mod turning;
 
 pub use collecting::collect;
 pub use trying::ladder;
+pub use turning::turns;
 
 fn elected_entry(i: usize, words: &ElectedWords) {
     entry(b", elected ", i, words);

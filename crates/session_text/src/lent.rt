@@ -1,5 +1,6 @@
 // What a session lends at most, and what stands in it before a call.
 use book::HEADER_WORDS;
+use book::MOST_PRICES;
 use book::MOST_RECORDS;
 use book::RECORD_WORDS;
 
@@ -14,3 +15,6 @@ pub const MOST_ELECTED: usize = MOST_RECORDS + 1;
 pub const MOST_MOVED: usize = 2 * MOST_RECORDS + 1;
 
 pub const MOST_LISTED: usize = MOST_RECORDS + 1;
+
+// The most places for turning points: one more than a run can need.
+pub const MOST_PLACES: usize = MOST_PRICES + 1;

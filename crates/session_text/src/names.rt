@@ -55,23 +55,25 @@ pub const MASS_CANCEL: u64 = 25;
 
 pub const LADDER: u64 = 26;
 
-pub const WORDS: u64 = 27;
+pub const TURNS: u64 = 27;
 
-pub const SET: u64 = 28;
+pub const WORDS: u64 = 28;
 
-pub const STORE: u64 = 29;
+pub const SET: u64 = 29;
 
-pub const BOOK: u64 = 30;
+pub const STORE: u64 = 30;
 
-pub const PATH: u64 = 31;
+pub const BOOK: u64 = 31;
 
-pub const LISTS: u64 = 32;
+pub const PATH: u64 = 32;
 
-pub const SHOW: u64 = 33;
+pub const LISTS: u64 = 33;
+
+pub const SHOW: u64 = 34;
 
 // Every name, with a space behind it.
-const NAMES: [u8; 240] =
-    *b"trailed elected_by inconsistency preview draw limit collar collar_tick child record take reset well_formed quantity find layout clear cancel admit update segment walk pass run collect mass_cancel ladder words set store book path lists show ";
+const NAMES: [u8; 246] =
+    *b"trailed elected_by inconsistency preview draw limit collar collar_tick child record take reset well_formed quantity find layout clear cancel admit update segment walk pass run collect mass_cancel ladder turns words set store book path lists show ";
 
 // Whether two texts are the same.
 fn same(a: &[u8], b: &[u8]) -> bool {
