@@ -1,7 +1,8 @@
 // The compiled library, called by its plain names.
 
 use crate::yubtomiq::library::{
-    yubtomiq_admit_trailing_stop, yubtomiq_collect, yubtomiq_ladder, yubtomiq_layout_store, yubtomiq_mass_cancel, yubtomiq_walk, yubtomiq_well_formed,
+    yubtomiq_admit_trailing_stop, yubtomiq_collect, yubtomiq_ladder, yubtomiq_layout_store, yubtomiq_mass_cancel, yubtomiq_turning_points, yubtomiq_walk,
+    yubtomiq_well_formed,
 };
 use crate::yubtomiq::{
     ELECTED_WORDS, ElectedWords, HEADER_WORDS, LADDER_WORDS, LadderWords, RECORD_WORDS, STOP_WORDS, SelectorWords, StopWords,
@@ -106,4 +107,12 @@ impl Store {
     pub fn well_formed(&self) -> bool {
         unsafe { yubtomiq_well_formed(self.words.as_ptr(), self.words.len()) == 1 }
     }
+}
+
+/// How many turning points a run has; they are written from the start of the list.
+pub fn turning_points(prices: &[u64], list: &mut [u64]) -> usize {
+    let mut answer = [0; 1];
+    let refused = unsafe { yubtomiq_turning_points(prices.as_ptr(), prices.len(), list.as_mut_ptr(), list.len(), &mut answer) };
+    assert_eq!(refused, 0, "turning points");
+    answer[0] as usize
 }

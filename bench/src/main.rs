@@ -149,6 +149,25 @@ fn reading() {
     }
 }
 
+/// Turning points of the longest runs.
+fn turning() {
+    const TIMES: usize = 100;
+    println!();
+    println!("| turning points of a run of {} prices | how many | ns a price |", yubtomiq::MOST_PRICES);
+    println!("|---|---|---|");
+    let runs = [("rising", stops::sawtooth(0)), ("turning after 64 prices", stops::sawtooth(64)), ("turning at each price", stops::sawtooth(1)), ("by chance", stops::restless())];
+    for (name, prices) in runs {
+        let mut list = vec![0; prices.len()];
+        let found = library::turning_points(&prices, &mut list);
+        let time = median(|| (), |()| {
+            for _ in 0..TIMES {
+                assert_eq!(library::turning_points(black_box(&prices), &mut list), found);
+            }
+        });
+        println!("| {name} | {found} | {:.2} |", nanoseconds(time, TIMES * prices.len()));
+    }
+}
+
 fn main() {
     println!("| run, or call | prints | Rust, ns a print | Rattle, ns a print | ratio | target |");
     println!("|---|---|---|---|---|---|");
@@ -163,4 +182,5 @@ fn main() {
     selected("one side", Selector::Side(Side::Sell));
     selected("every price", Selector::Range(0, u64::MAX));
     reading();
+    turning();
 }

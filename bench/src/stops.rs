@@ -77,6 +77,21 @@ pub fn ladder(many: usize) -> Vec<u64> {
     (0..many as u64).map(|k| if k % 2 == 0 { BASE + 1_060 - 2 * k } else { BASE - 1_060 + 2 * k }).collect()
 }
 
+/// A run that turns after so many prices; for 0 it rises all the way.
+pub fn sawtooth(stretch: u64) -> Vec<u64> {
+    (0..PRINTS).map(|k| if stretch == 0 { BASE + k } else if k / stretch % 2 == 0 { BASE + k % stretch } else { BASE + stretch - k % stretch }).collect()
+}
+
+/// A run by chance, the same in every run of the bench.
+pub fn restless() -> Vec<u64> {
+    let mut state: u64 = 5;
+    let mut step = || {
+        state = state.wrapping_mul(6364136223846793005).wrapping_add(1442695040888963407);
+        state >> 33
+    };
+    (0..PRINTS).map(|_| BASE + step() % 1_000).collect()
+}
+
 /// The published book with these stops, admitted in turn.
 pub fn book_of(stops: &[Stop]) -> Desk {
     let settings = Settings { tick: 0, kill: false, collar: 5, namespace: Uuid::from_bytes([0; 16]), last_trade: None };
