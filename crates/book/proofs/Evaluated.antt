@@ -10,7 +10,7 @@ use lib.ListN.{getD}
 use Rattle.error.specs.Answer.{accepted}
 use Rattle.pricelevel.specs.declared.Price.{Price}
 use Rattle.book.proofs.Accepted.{Accepted, decide-accepted, book-stored}
-use Rattle.book.proofs.Walks.{Kept, PriceFits, PointsAt, segment-points, walk-points, points-valid, points-fits, points-kept, points-count, SegmentFits, segmentPrices-fits}
+use Rattle.book.proofs.Walks.{Kept, PriceFits, PointsAt, point-points, segment-points, walk-points, points-valid, points-fits, points-kept, points-count, SegmentFits, segmentPrices-fits}
 use Rattle.book.specs.Lists.{All}
 use Rattle.book.proofs.Passes.{pass-valid, pass-fits, pass-kept, pass-count}
 use Rattle.book.proofs.Questions.{firstNo-none}
@@ -18,8 +18,9 @@ use Rattle.book.specs.Valid.{Valid, Fits}
 use Rattle.book.proofs.WellFormed.{IsWord, Stored}
 use Rattle.book.specs.Book.{Book, pendingCount}
 use Rattle.book.specs.Calls.{Settings, countsOf, PassCounts, SegmentOutcome, pendingIn, segmentQuestions, segmentCall, WalkOutcome, walkQuestions, walkCall, pass, PassOutcome, passQuestions, passed, passCall, RunOutcome, runOver, runCall}
-use Rattle.book.specs.Evaluation.{Evaluated, segment, walk}
+use Rattle.book.specs.Evaluation.{Evaluated, sellsFirst, segment, walk}
 use Rattle.book.specs.Path.{lastOr, segmentOf}
+use Rattle.book.specs.StepCall.{stepped, stepQuestions, stepCall}
 use Rattle.book.specs.Store.{storedBook}
 use Rattle.book.specs.Words.{bookOf, wellFormed}
 use Rattle.book.specs.declared.LastPrice.{LastPrice}
@@ -97,6 +98,17 @@ module _ (s : Settings) (w : List ℕ) (elected : ℕ) where
       (λ o v. Lost (segment (s .kill) prints (bookOf w) .book) (v .elected) w (o .words)) _ _ _ (λ k. refl)
       (λ e. points-lost (s .kill) w (segment-points (s .kill) prints (bookOf w)) (segmentPrices-fits prints fits)
       (firstNo-none (segmentQuestions w elected moved) e .0))
+
+  pub stepCall-lost : (falls : Bool) (from : LastPrice) (price : Price) (moved : ℕ) → PriceFits price
+      → (a : Accepted (stepCall s falls from price w elected moved .answer))
+      → Lost (stepped (s .kill) falls from price (bookOf w) .book) (a .0 .elected) w
+      (stepCall s falls from price w elected moved .words)
+  unfolding stepCall stepQuestions
+  stepCall-lost falls from price moved fits =
+      decide-accepted (λ (o : SegmentOutcome). o .answer)
+      (λ o v. Lost (stepped (s .kill) falls from price (bookOf w) .book) (v .elected) w (o .words)) _ _ _ (λ k. refl)
+      (λ e. points-lost (s .kill) w (point-points (s .kill) (sellsFirst falls from price) price (bookOf w)) (fits, tt)
+      (firstNo-none (stepQuestions w elected moved) e .0))
 
   pub walkCall-lost : (prev : LastPrice) (prices : List Price) → All PriceFits prices
       → (a : Accepted (walkCall s prev prices w elected .answer))

@@ -2,7 +2,7 @@
 -- computes.
 use Prim.Native.Nat.{ℕ, _-_, _^_}
 use mathlib.Core.Path.{_≡_, refl}
-use mathlib.Core.Bool.{false}
+use mathlib.Core.Bool.{Bool, true, false}
 use mathlib.Core.List.{List, [], _∷_, _++_, map}
 use lib.ListN.{drop, replicate}
 use Rattle.error.specs.Answer.{Answer, refused, accepted}
@@ -28,6 +28,7 @@ use Rattle.book.specs.Evaluation.{trailed, leaves, vacatedIf, settled, l
 use Rattle.book.specs.Lists.{headOr0, isNone, isSome, rising, every, sameList, insertBy, sortBy}
 use Rattle.book.specs.Path.{closed}
 use Rattle.error.specs.Questions.{firstNo, decide}
+use Rattle.book.specs.StepCall.{stepQuestions, stepCall, bothAnswers, stepAnd, stepsAlong}
 use Rattle.book.specs.Store.{PathOutcome, stored, storedBook, emptyBook, layOut, named, lookup, isPending, withinWatermark, notTriggered, admissionQuestions, admitted, newEntry, pathAfterAdmission, admit}
 use Rattle.book.specs.TurningPoints.{turnsAt, turnsFrom, turningPoints}
 use Rattle.book.specs.Words.{nextIn, chainIndices, header, recordWords, recordsWords, layout, cell, recordWord, kindOf, sideFrom, entryAt, slotAt, slotsAt, freeFrom, bookOf, consistent, soundStop, differs, allDiffer, vacantIndices, valid, areWords, wellFormed, dataWords, afterByStop, afterByWatermark, withLinks}
@@ -75,6 +76,13 @@ segmentOver w prev first last = segmentCall plain (record { prev = prev; first =
 
 walkOver : List ℕ → List ℕ → WalkOutcome
 walkOver w l = walkCall plain last.None (map price l) w 4
+
+-- the steps of a run, and a step
+stepsOver : List ℕ → Bool → LastPrice → List ℕ → SegmentOutcome
+stepsOver w falls prev l = stepsAlong plain falls prev (map price l) w 4 4
+
+stepTo : List ℕ → ℕ → ℕ → SegmentOutcome
+stepTo w elected moved = stepCall plain true last.None (price 100) w elected moved
 
 ------------------------------------------------------------------------
 -- Answers as numbers: refused is 0 and the number; accepted 1 and the values
@@ -141,6 +149,14 @@ bothStore =
     2 ∷ 2 ∷ 2 ∷ 0 ∷ 1 ∷ 1 ∷ 2 ∷ 2 ∷ 0
     ∷ 2 ∷ 0 ∷ 7 ∷ 1 ∷ 100 ∷ 100 ∷ 10 ∷ 1 ∷ 0 ∷ 0 ∷ 0 ∷ 0 ∷ 0 ∷ 0 ∷ 0
     ∷ 2 ∷ 0 ∷ 9 ∷ 0 ∷ 100 ∷ 100 ∷ 10 ∷ 1 ∷ 1 ∷ 0 ∷ 0 ∷ 0 ∷ 0 ∷ 0 ∷ 0
+    ∷ []
+
+-- the same with a trail of 5
+tiedStore : List ℕ
+tiedStore =
+    2 ∷ 2 ∷ 2 ∷ 0 ∷ 1 ∷ 1 ∷ 2 ∷ 2 ∷ 0
+    ∷ 2 ∷ 0 ∷ 7 ∷ 1 ∷ 100 ∷ 100 ∷ 5 ∷ 1 ∷ 0 ∷ 0 ∷ 0 ∷ 0 ∷ 0 ∷ 0 ∷ 0
+    ∷ 2 ∷ 0 ∷ 9 ∷ 0 ∷ 100 ∷ 100 ∷ 5 ∷ 1 ∷ 1 ∷ 0 ∷ 0 ∷ 0 ∷ 0 ∷ 0 ∷ 0
     ∷ []
 
 -- two sells with equal stops, two buys with equal watermarks: ties by sequence ascending, and in the last descending
@@ -229,6 +245,21 @@ table =
     ∷ example (map line (segmentOver bothStore last.None 100 100 .elected)) (sellLine ∷ buyLine ∷ [])
     ∷ example (map line (segmentOver bothStore (last.At (price 101)) 100 101 .elected)) (sellLine ∷ buyLine ∷ [])
     ∷ example (map line (segmentOver bothStore (last.At (price 100)) 100 101 .elected)) (buyLine ∷ sellLine ∷ [])
+    -- a run that rises from 100: its walk and its steps elect the buy first, a segment of its first price the sell
+    ∷ example (map line (walkOver tiedStore (100 ∷ 101 ∷ []) .elected)) (buyLine ∷ sellLine ∷ [])
+    ∷ example (map line (stepsOver tiedStore false last.None (100 ∷ 101 ∷ []) .elected)) (buyLine ∷ sellLine ∷ [])
+    ∷ example (map line (segmentOver tiedStore last.None 100 100 .elected)) (sellLine ∷ buyLine ∷ [])
+    -- one that falls, and two whose first price is arrived from another
+    ∷ example (map line (stepsOver tiedStore true last.None (100 ∷ 99 ∷ []) .elected)) (sellLine ∷ buyLine ∷ [])
+    ∷ example (map line (stepsOver tiedStore false (last.At (price 101)) (100 ∷ 101 ∷ []) .elected)) (sellLine ∷ buyLine ∷ [])
+    ∷ example (map line (stepsOver tiedStore true (last.At (price 99)) (100 ∷ 99 ∷ []) .elected)) (buyLine ∷ sellLine ∷ [])
+    -- the steps of a run that turns: what its walk answers, leaves and lists, and the moves
+    ∷ example (segmentLines (stepsOver turningStore true last.None (100 ∷ 104 ∷ 110 ∷ 110 ∷ 107 ∷ 104 ∷ 100 ∷ [])))
+    ((1 ∷ 2 ∷ 1 ∷ []) ∷ turningLeft ∷ (2 ∷ 0 ∷ 7 ∷ 1 ∷ 105 ∷ 1 ∷ 0 ∷ 104 ∷ []) ∷ (7 ∷ 99 ∷ []) ∷ (7 ∷ 105 ∷ []) ∷ [])
+    -- a list too short, either, and then words that are no store
+    ∷ example (segmentLines (stepTo bothStore 1 2)) ((0 ∷ 14 ∷ []) ∷ bothStore ∷ [])
+    ∷ example (segmentLines (stepTo bothStore 2 1)) ((0 ∷ 14 ∷ []) ∷ bothStore ∷ [])
+    ∷ example (segmentLines (stepTo (0 ∷ bothStore) 0 0)) ((0 ∷ 1 ∷ []) ∷ (0 ∷ bothStore) ∷ [])
     ∷ example (map line (walkOver tiesStore (90 ∷ []) .elected))
     ((2 ∷ 0 ∷ 1 ∷ 1 ∷ 90 ∷ 1 ∷ 0 ∷ 90 ∷ []) ∷ (2 ∷ 0 ∷ 2 ∷ 1 ∷ 90 ∷ 1 ∷ 1 ∷ 90 ∷ []) ∷ [])
     ∷ example (map movedLine (segmentOver tiesStore last.None 95 95 .moved)) ((4 ∷ 105 ∷ []) ∷ (3 ∷ 105 ∷ []) ∷ [])
@@ -248,5 +279,5 @@ expected : List (List (List ℕ))
 expected = map (λ e. e .expected) table
 
 examples : found ≡ expected
-unfolding price sequential terms plain collared closedPath admitFor admitInto segmentOver walkOver toldSeq toldCounts line limitLine movedLine segmentLines walkLines admissionLines laidOut forecastStore turningStore bothStore tiesStore topStore lowStore topRun longerRun forecastLeft turningLeft turnsAt turnsFrom turningPoints sellLine buyLine example table found expected before lexicographic withIndex gather insertBy sortBy ofSide pendingOn chain indices pendingCount headOr0 isNone rising every sameList nextIn chainIndices header recordWords dataWords afterByStop afterByWatermark withLinks recordsWords layout cell recordWord kindOf sideFrom entryAt slotAt slotsAt freeFrom bookOf consistent soundStop differs allDiffer vacantIndices valid areWords wellFormed sameId onTick behind beyond inconsistencyOf inconsistencyNumber candidate tightened ratcheted trailedAt elects electedAt electedEntry limitUnder limitFor limitPrice twoWords limitPresent limitHigh limitLow electedEntries countsOf pendingIn segmentQuestions segmentCall walkQuestions walkCall trailed leaves vacatedIf settled leavingOn leaver electedOn electedBy freed changedOn mover movedEntry movedOn movedBy fillAt point sellsFirst fallsTo andThen walkFrom segment lastOf walk firstNo decide stored storedBook emptyBook layOut named lookup isSome isPending withinWatermark notTriggered admissionQuestions admitted newEntry pathAfterAdmission admit closed
+unfolding price sequential terms plain collared closedPath admitFor admitInto segmentOver walkOver stepsOver stepTo stepQuestions stepCall bothAnswers stepAnd stepsAlong tiedStore toldSeq toldCounts line limitLine movedLine segmentLines walkLines admissionLines laidOut forecastStore turningStore bothStore tiesStore topStore lowStore topRun longerRun forecastLeft turningLeft turnsAt turnsFrom turningPoints sellLine buyLine example table found expected before lexicographic withIndex gather insertBy sortBy ofSide pendingOn chain indices pendingCount headOr0 isNone rising every sameList nextIn chainIndices header recordWords dataWords afterByStop afterByWatermark withLinks recordsWords layout cell recordWord kindOf sideFrom entryAt slotAt slotsAt freeFrom bookOf consistent soundStop differs allDiffer vacantIndices valid areWords wellFormed sameId onTick behind beyond inconsistencyOf inconsistencyNumber candidate tightened ratcheted trailedAt elects electedAt electedEntry limitUnder limitFor limitPrice twoWords limitPresent limitHigh limitLow electedEntries countsOf pendingIn segmentQuestions segmentCall walkQuestions walkCall trailed leaves vacatedIf settled leavingOn leaver electedOn electedBy freed changedOn mover movedEntry movedOn movedBy fillAt point sellsFirst fallsTo andThen walkFrom segment lastOf walk firstNo decide stored storedBook emptyBook layOut named lookup isSome isPending withinWatermark notTriggered admissionQuestions admitted newEntry pathAfterAdmission admit closed
 examples = refl

@@ -1,7 +1,7 @@
 -- The holder has no influence on election: document 02, One.
 use Prim.Native.Nat.{ℕ}
 use mathlib.Core.Path.{_≡_, refl, sym, ap, _∙_}
-use mathlib.Core.Bool.{not, _||_}
+use mathlib.Core.Bool.{Bool, not, _||_}
 use mathlib.Core.List.{List, []}
 use mathlib.Core.Option.{Option, none, some}
 use borrow.Table.Steps.{cases}
@@ -12,12 +12,13 @@ use Rattle.error.specs.Questions.{Question, firstNo, decide}
 use Rattle.pricelevel.specs.declared.Price.{Price}
 use Rattle.book.proofs.AlikeStores.{books-alike, stored-alike}
 use Rattle.book.proofs.Holderless.{holderlessBook, pendingCount-holderless}
-use Rattle.book.proofs.HolderlessEvaluation.{holderlessFill, holderlessEvaluated, segment-holderless, walk-holderless, electedEntries-holderless, holderlessPassed, pass-holderless}
+use Rattle.book.proofs.HolderlessEvaluation.{holderlessFill, holderlessEvaluated, point-holderless, segment-holderless, walk-holderless, electedEntries-holderless, holderlessPassed, pass-holderless}
 use Rattle.book.specs.Book.{Book, pendingCount}
 use Rattle.book.specs.Calls.{Settings, Counts, electedEntries, countsOf, WalkOutcome, PassOutcome, pendingIn, segmentQuestions, segmentCall, walkQuestions, walkCall, Passed, pass, passQuestions, passed, passCall, runOver, runCall}
-use Rattle.book.specs.Evaluation.{Evaluated, segment, walk}
+use Rattle.book.specs.Evaluation.{Evaluated, sellsFirst, segment, walk}
 use Rattle.book.specs.Holders.{AlikeButHolders, Outcome, segmentOutcome, listOutcome, runOutcome, SameButHolders, Uninfluenced}
 use Rattle.book.specs.Path.{segmentOf}
+use Rattle.book.specs.StepCall.{stepped, stepQuestions, stepCall}
 use Rattle.book.specs.Store.{storedBook}
 use Rattle.book.specs.Words.{bookOf}
 use Rattle.book.specs.declared.LastPrice.{LastPrice}
@@ -106,7 +107,7 @@ decide-same show {f} {g} {a} {b} p q e refusal acceptance = rw e (go (firstNo q)
 
 -- Document 02, One: the holder has no influence on election. For every two well-formed stores that differ in holders
 -- alone, words behind the store among the equal ones, and everything else that is lent or passed the same: segment,
--- walk, pass and the run over path and store answer the same, list the same elected and the same moved stops, entry by
+-- step, walk, pass and the run over path and store answer the same, list the same elected and the same moved stops, entry by
 -- entry, leave the same path, and leave stores that again differ in holders alone. A refusal too has the same number.
 module _ (s : Settings) (elected : ℕ) where
   pub segmentCall-uninfluenced : (prints : PrintSegment) (moved : ℕ)
@@ -116,6 +117,15 @@ module _ (s : Settings) (elected : ℕ) where
       decide-same segmentOutcome (segmentQuestions w elected moved) (segmentQuestions v elected moved)
       (rw (f, g, pendingIn-alike h)) (λ k. untouched h (refused k) [])
       (evaluation-same h s (λ o. o .moved) (segment (s .kill) prints) (λ o. refl) (segment-holderless (s .kill) prints))
+
+  pub stepCall-uninfluenced : (falls : Bool) (from : LastPrice) (price : Price) (moved : ℕ)
+      → Uninfluenced (λ w. segmentOutcome (stepCall s falls from price w elected moved))
+  unfolding stepCall stepQuestions
+  stepCall-uninfluenced falls from price moved w v f g h =
+      decide-same segmentOutcome (stepQuestions w elected moved) (stepQuestions v elected moved)
+      (rw (f, g, pendingIn-alike h)) (λ k. untouched h (refused k) [])
+      (evaluation-same h s (λ o. o .moved) (stepped (s .kill) falls from price) (λ o. refl)
+      (point-holderless (s .kill) (sellsFirst falls from price) price))
 
   pub walkCall-uninfluenced : (prev : LastPrice) (prices : List Price)
       → Uninfluenced (λ w. listOutcome (walkCall s prev prices w elected))

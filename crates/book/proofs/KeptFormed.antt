@@ -1,17 +1,18 @@
 -- An evaluation leaves a well-formed store, accepted or refused, if the prices that it is given are words.
 use Prim.Native.Nat.{ℕ}
 use mathlib.Core.Path.{_≡_, refl}
-use mathlib.Core.Bool.{true}
+use mathlib.Core.Bool.{Bool, true}
 use mathlib.Core.List.{List}
 use Rattle.error.specs.Answer.{Answer, refused, accepted}
 use Rattle.pricelevel.specs.declared.Price.{Price}
 use Rattle.book.proofs.Accepted.{Accepted}
-use Rattle.book.proofs.Evaluated.{TradeFits, segmentCall-lost, walkCall-lost, passCall-lost, runCall-lost}
-use Rattle.book.proofs.Refusals.{Refused, segmentCall-refused, walkCall-refused, passCall-refused, runCall-refused}
+use Rattle.book.proofs.Evaluated.{TradeFits, segmentCall-lost, stepCall-lost, walkCall-lost, passCall-lost, runCall-lost}
+use Rattle.book.proofs.Refusals.{Refused, segmentCall-refused, stepCall-refused, walkCall-refused, passCall-refused, runCall-refused}
 use Rattle.book.proofs.Walks.{PriceFits, SegmentFits}
 use Rattle.book.proofs.WellFormed.{IsWord}
 use Rattle.book.specs.Calls.{Settings, segmentCall, walkCall, passCall, runCall}
 use Rattle.book.specs.Lists.{All}
+use Rattle.book.specs.StepCall.{stepCall}
 use Rattle.book.specs.Words.{wellFormed}
 use Rattle.book.specs.declared.LastPrice.{LastPrice}
 use Rattle.book.specs.declared.PrintPath.{PrintPath}
@@ -30,6 +31,13 @@ module _ (s : Settings) (w : List ℕ) (elected : ℕ) (formed : wellFormed w �
       kept-formed (segmentCall s prints w elected moved .answer) formed
       (λ r. segmentCall-refused s w elected prints moved r .0)
       (λ a. segmentCall-lost s w elected prints moved fits a .stored .formed)
+
+  pub stepCall-formed : (falls : Bool) (from : LastPrice) (price : Price) (moved : ℕ) → PriceFits price
+      → wellFormed (stepCall s falls from price w elected moved .words) ≡ true
+  stepCall-formed falls from price moved fits =
+      kept-formed (stepCall s falls from price w elected moved .answer) formed
+      (λ r. stepCall-refused s w elected falls from price moved r .0)
+      (λ a. stepCall-lost s w elected falls from price moved fits a .stored .formed)
 
   pub walkCall-formed : (prev : LastPrice) (prices : List Price) → All PriceFits prices
       → wellFormed (walkCall s prev prices w elected .words) ≡ true

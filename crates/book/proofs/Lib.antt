@@ -50,6 +50,7 @@ pub mod PointRecord
 pub mod Slots
 pub mod Sort
 pub mod Soundness
+pub mod StepsWalk
 pub mod Stops
 pub mod Tests
 pub mod TurningExamples

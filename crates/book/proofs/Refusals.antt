@@ -20,6 +20,7 @@ use Rattle.book.specs.Calls.{Settings, SegmentOutcome, ListOutcome, Walk
 use Rattle.book.specs.Collect.{CollectOutcome, collect, massCancel}
 use Rattle.book.specs.Ladder.{LadderOutcome, ladder}
 use Rattle.error.specs.Questions.{decide}
+use Rattle.book.specs.StepCall.{stepCall}
 use Rattle.book.specs.Store.{StoreOutcome, PathOutcome, layOut, clear, admit, cancelFound, cancel, cancels, changeFound, updateFound, update, lookup}
 use Rattle.book.specs.TurningPoints.{TurningPointsOutcome, turningPointsCall}
 use Rattle.book.specs.Words.{bookOf}
@@ -135,6 +136,17 @@ module _ (s : Settings) (w : List ℕ) (elected : ℕ) where
       × (segmentCall s prints w elected moved .moved ≡ [])
   unfolding segmentCall
   segmentCall-refused prints moved r =
+      decide-refused (λ (o : SegmentOutcome). o .answer)
+      (λ o. (o .words ≡ w) × (o .elected ≡ []) × (o .moved ≡ [])) _ _ _ r
+      (λ k. (refl, refl, refl)) (λ q. absurd (accepted-refused _ q))
+
+  pub stepCall-refused : (falls : Bool) (from : LastPrice) (price : Price) (moved : ℕ)
+      → Refused (stepCall s falls from price w elected moved .answer)
+      → (stepCall s falls from price w elected moved .words ≡ w)
+      × (stepCall s falls from price w elected moved .elected ≡ [])
+      × (stepCall s falls from price w elected moved .moved ≡ [])
+  unfolding stepCall
+  stepCall-refused falls from price moved r =
       decide-refused (λ (o : SegmentOutcome). o .answer)
       (λ o. (o .words ≡ w) × (o .elected ≡ []) × (o .moved ≡ [])) _ _ _ r
       (λ k. (refl, refl, refl)) (λ q. absurd (accepted-refused _ q))

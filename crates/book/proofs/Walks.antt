@@ -3,7 +3,7 @@
 use Prim.Native.Nat.{ℕ, _≤_, _<_, _+_, _*_, _^_}
 use mathlib.Core.Path.{_≡_, refl, _∙_}
 use mathlib.Core.Bool.{Bool, true}
-use mathlib.Core.List.{List, [], _∷_}
+use mathlib.Core.List.{List, [], _∷_, append-nil}
 use native.Mathlib.Nat.{suc-mul}
 use native.Mathlib.Omega.{arith}
 use borrow.Table.Steps.{cases}
@@ -85,6 +85,18 @@ walkFrom-points kill falls from [] b = done
 walkFrom-points kill falls from (p ∷ ps) b =
     next (sellsFirst falls from p) p
     (walkFrom-points kill falls (last.At p) ps (point kill (sellsFirst falls from p) p b .book))
+
+-- nothing after an evaluation
+pub then-none : (o : Evaluated) → andThen o (record { book = o .book; fills = []; moved = [] }) ≡ o
+unfolding andThen
+then-none o = λ i. record { book = o .book; fills = append-nil (o .fills) i; moved = append-nil (o .moved) i }
+
+pub point-points : (kill first : Bool) (p : Price) (b : Book) → PointsAt kill (p ∷ []) b (point kill first p b)
+point-points kill first p b =
+    let o = point kill first p b in
+    let h : PointsAt kill (p ∷ []) b (andThen o (record { book = o .book; fills = []; moved = [] })) =
+    next first p done in
+    rw (then-none o) at h
 
 pub segment-points : (kill : Bool) (s : PrintSegment) (b : Book) → PointsAt kill (segmentPrices s) b (segment kill s b)
 unfolding segment

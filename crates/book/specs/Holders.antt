@@ -30,8 +30,8 @@ pub record AlikeButHolders (w v : List ℕ) : Type 0 where
 ------------------------------------------------------------------------
 -- Calls on which holders have no influence
 
--- what the outcomes of the calls that evaluate share, and what they have besides: a segment its moved list, a walk and
--- a pass nothing, the run its path
+-- what the outcomes of the calls that evaluate share, and what they have besides: a segment and a step the moved list, a
+-- walk and a pass nothing, the run its path
 pub record Outcome (A X : Type 0) : Type 0 where
   pub answer : Answer A
   pub words : List ℕ

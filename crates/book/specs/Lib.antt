@@ -13,6 +13,7 @@ pub mod Path
 pub mod Runs
 pub mod Script
 pub mod Sizes
+pub mod StepCall
 pub mod Steps
 pub mod Store
 pub mod TurningPoints

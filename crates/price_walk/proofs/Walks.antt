@@ -7,7 +7,7 @@ use mathlib.Core.List.{List, [], _∷_, _++_, map, map-append, append-assoc}
 use lib.ListN.{length, getD, take}
 use lib.Seq.{sets, take-suc, take-all}
 use Rattle.pricelevel.specs.declared.Price.{Price}
-use Rattle.book.proofs.Walks.{walkFrom-points, points-count}
+use Rattle.book.proofs.Walks.{walkFrom-points, then-none, points-count}
 use Rattle.book.specs.Book.{Book, pendingCount}
 use Rattle.book.specs.Evaluation.{Evaluated, point, sellsFirst, fallsTo, andThen, walkFrom, lastOf, walk}
 use Rattle.book.specs.Sizes.{mostRecords}
@@ -16,7 +16,6 @@ use Rattle.book.specs.declared.LastPrice.the-variants as last
 use Rattle.listing.specs.ChainEntries.{fillWords}
 use Rattle.pending_stops.specs.Stored.{Stored}
 use Rattle.points.proofs.PointsOnWords.{Does, point-few, does-same, does-then}
-use Rattle.segments.proofs.TwoPoints.{then-none}
 use Rattle.pricelevel.specs.Price.{toPrice}
 
 ------------------------------------------------------------------------

@@ -3,13 +3,14 @@ use Prim.Native.Nat.{ℕ, _+_, _*_, _≤_}
 use native.Mathlib.Omega.{arith}
 use mathlib.Core.Path.{_≡_, sym, ap}
 use mathlib.Core.Bool.{Bool, true}
-use mathlib.Core.List.{List, [], map, append-nil}
+use mathlib.Core.List.{List, map}
 use borrow.Table.Steps.{cases}
 use lib.Dec.{eqb}
 use lib.ListN.{length}
 use lib.Seq.{sets}
 use Rattle.pricelevel.specs.declared.Price.{Price}
 use Rattle.book.proofs.PointCounts.{point-count, point-moves}
+use Rattle.book.proofs.Walks.{then-none}
 use Rattle.book.specs.Book.{Book, pendingCount}
 use Rattle.book.specs.Evaluation.{Evaluated, movedBy, point, sellsFirst, fallsTo, andThen, walkFrom, segment}
 use Rattle.book.specs.declared.LastPrice.the-variants as last
@@ -22,11 +23,6 @@ use Rattle.points.proofs.Steps.{run-on, ListsMoves}
 use Rattle.segments.specs.Segments.{secondPoint}
 use Rattle.segments.specs.declared.SecondPoint.{SecondPoint}
 use Rattle.segments.specs.declared.SecondPoint.the-variants as second
-
--- nothing after a point
-pub then-none : (o : Evaluated) → andThen o (record { book = o .book; fills = []; moved = [] }) ≡ o
-unfolding andThen
-then-none o = λ i. record { book = o .book; fills = append-nil (o .fills) i; moved = append-nil (o .moved) i }
 
 module _ (kill : Bool) (s : PrintSegment) where
   abbrev pub firstPoint : Book → Evaluated
