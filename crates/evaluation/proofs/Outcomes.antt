@@ -1,6 +1,7 @@
--- What a segment and a walk answer and leave, refused and accepted.
+-- What a segment, a step and a walk answer and leave, refused and accepted.
 use Prim.Native.Nat.{ℕ, _+_, _≤_}
 use native.Mathlib.Omega.{arith}
+use mathlib.Core.Bool.{Bool}
 use mathlib.Core.Path.{_≡_, refl, ap, _∙_}
 use mathlib.Core.List.{List, [], _∷_, map}
 use mathlib.Core.Option.{none, some}
@@ -9,10 +10,12 @@ use lib.Seq.{sets, length-sets}
 use Rattle.error.specs.Answer.{refused, accepted}
 use Rattle.pricelevel.specs.declared.Price.{Price}
 use Rattle.book.specs.declared.Counts.{Counts}
-use Rattle.book.proofs.Walks.{PointsAt, segment-points, walk-points, points-count, segment-moves}
+use Rattle.book.proofs.PointCounts.{point-moves}
+use Rattle.book.proofs.Walks.{PointsAt, point-points, segment-points, walk-points, points-count, segment-moves}
 use Rattle.book.specs.Book.{pendingCount}
 use Rattle.book.specs.Calls.{electedEntry, electedEntries, written, countsOf, SegmentOutcome, segmentQuestions, segmentCall, WalkOutcome, walkQuestions, walkCall}
-use Rattle.book.specs.Evaluation.{Evaluated, segment, walk}
+use Rattle.book.specs.Evaluation.{Evaluated, sellsFirst, segment, walk}
+use Rattle.book.specs.StepCall.{stepped, stepQuestions, stepCall}
 use Rattle.error.specs.Questions.{firstNo, decide}
 use Rattle.book.specs.Words.{bookOf}
 use Rattle.book.specs.declared.LastPrice.{LastPrice}
@@ -23,7 +26,7 @@ use Rattle.book.specs.Entries.{movedWords, electedWords}
 use Rattle.listing.specs.ChainEntries.{fillWords}
 use Rattle.pending_stops.proofs.Found.{beyond, stored-words}
 use Rattle.pending_stops.specs.Stored.{Stored}
-use Rattle.evaluation.proofs.Questions.{segment-room, walk-room}
+use Rattle.evaluation.proofs.Questions.{segment-room, step-room, walk-room}
 
 map-both : {A B C : Type 0} (f : B → C) (g : A → B) (l : List A) → map (λ x. f (g x)) l ≡ map f (map g l)
 map-both f g [] = refl
@@ -96,6 +99,50 @@ module _ (s : Settings) (prints : PrintSegment) (w : List ℕ) (elected moved : 
       hm ∙ sets-written (map movedWords (after .moved)) moved
           (rw length-map (omega (arith, segment-moves (s .kill) prints (bookOf w), segment-room w _ _ h .1))),
     )
+
+------------------------------------------------------------------------
+-- Step
+
+module _ (s : Settings) (falls : Bool) (from : LastPrice) (price : Price) (w : List ℕ) (elected moved : List (List ℕ)) where
+  abbrev outcome-step : SegmentOutcome
+  outcome-step = stepCall s falls from price w (length elected) (length moved)
+
+  abbrev step-elected : List (List ℕ)
+  step-elected = written (map electedWords (outcome-step .elected)) elected
+
+  abbrev step-moved : List (List ℕ)
+  step-moved = written (map movedWords (outcome-step .moved)) moved
+
+  abbrev after-step : Evaluated
+  after-step = stepped (s .kill) falls from price (bookOf w)
+
+  abbrev point-of-step : PointsAt (s .kill) (price ∷ []) (bookOf w) after-step
+  point-of-step = point-points (s .kill) (sellsFirst falls from price) price (bookOf w)
+
+  pub step-refused : (k : ℕ) → some k ≡ firstNo (stepQuestions w (length elected) (length moved))
+      → (refused k ≡ outcome-step .answer) × (w ≡ outcome-step .words) × (elected ≡ step-elected) × (moved ≡ step-moved)
+  unfolding stepCall decide written
+  step-refused k h = rw (← h) (refl, refl, refl, refl)
+
+  module _ (h : none ≡ firstNo (stepQuestions w (length elected) (length moved))) where
+    -- the moved list has room for the moves
+    pub step-moves : length (after-step .moved) ≤ length moved
+    step-moves =
+        omega (arith, point-moves (s .kill) (sellsFirst falls from price) price (bookOf w), step-room w _ _ h .1)
+
+    module _ (l1 : List (List ℕ)) (filled : l1 ≡ sets elected 0 (map fillWords (after-step .fills))) where
+      pub step-done : (c : Counts) (u : List ℕ) (l2 m : List (List ℕ)) → c .moves ≡ length (after-step .moved)
+          → c .elected ≡ length (after-step .fills)
+          → m ≡ sets moved 0 (map movedWords (after-step .moved)) → Stored (getD w 0 0) u (after-step .book) (beyond w)
+          → l2 ≡ sets l1 0 (map (λ f. electedWords (electedEntry s (after-step .book) f)) (after-step .fills))
+          → (accepted c ≡ outcome-step .answer) × (u ≡ outcome-step .words) × (l2 ≡ step-elected) × (m ≡ step-moved)
+      unfolding stepCall decide countsOf
+      step-done c u l2 m moves count hm st h2 = rw (← h) (
+        rw (← moves, ← count),
+        stored-words w u (after-step .book) st,
+        completed s w elected _ after-step point-of-step (step-room w _ _ h .0) l1 filled l2 h2,
+        hm ∙ sets-written (map movedWords (after-step .moved)) moved (rw length-map step-moves),
+      )
 
 ------------------------------------------------------------------------
 -- Walk

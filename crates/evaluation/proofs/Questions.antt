@@ -13,6 +13,7 @@ use Rattle.pricelevel.specs.declared.Price.{Price}
 use Rattle.book.proofs.Questions.{firstNo-none}
 use Rattle.book.specs.Book.{pendingCount}
 use Rattle.book.specs.Calls.{pendingIn, segmentQuestions, walkQuestions}
+use Rattle.book.specs.StepCall.{stepQuestions}
 use Rattle.error.specs.Questions.{firstNo}
 use Rattle.book.specs.Words.{bookOf, wellFormed}
 use Rattle.book.specs.Sizes.{mostRecords, mostPrices}
@@ -42,6 +43,17 @@ module _ (w : List ℕ) (elected moved : ℕ) (h : none ≡ firstNo (segmentQues
   unfolding segmentQuestions pendingIn
   segment-room =
       let q = and-parts (leb (pendingIn w) elected) _ (firstNo-none (segmentQuestions w elected moved) (sym h) .1 .0) in
+      (leb-true _ _ (q .0), leb-true _ _ (q .1))
+
+module _ (w : List ℕ) (elected moved : ℕ) (h : none ≡ firstNo (stepQuestions w elected moved)) where
+  pub step-formed : wellFormed w ≡ true
+  unfolding stepQuestions
+  step-formed = firstNo-none (stepQuestions w elected moved) (sym h) .0
+
+  pub step-room : (pendingCount (bookOf w .slots) ≤ elected) × (pendingCount (bookOf w .slots) ≤ moved)
+  unfolding stepQuestions pendingIn
+  step-room =
+      let q = and-parts (leb (pendingIn w) elected) _ (firstNo-none (stepQuestions w elected moved) (sym h) .1 .0) in
       (leb-true _ _ (q .0), leb-true _ _ (q .1))
 
 module _ (prices : List Price) (w : List ℕ) (elected : ℕ) (h : none ≡ firstNo (walkQuestions prices w elected)) where

@@ -2,7 +2,7 @@
 use Prim.Native.Nat.{ℕ, _≤_, _*_, min, zero-le}
 use native.Mathlib.Omega.{arith}
 use mathlib.Core.Path.{_≡_, refl, sym, _∙_}
-use mathlib.Core.Bool.{true, not, _||_}
+use mathlib.Core.Bool.{Bool, true, not, _||_}
 use mathlib.Core.List.{List, [], _∷_, map}
 use mathlib.Core.Option.{none}
 use borrow.Author.Tests.{le-leb, lt-leb, leb-true, leb-false}
@@ -12,7 +12,8 @@ use lib.ListN.{length, length-map}
 use Rattle.pricelevel.specs.declared.IdKind.the-variants.{Uuid}
 use Rattle.pricelevel.specs.declared.Price.{Price}
 use Rattle.stop_trigger.specs.Child.{childId, idOf}
-use Rattle.book.proofs.Walks.{PointsAt, segment-points, walk-points, points-count, segment-moves}
+use Rattle.book.proofs.PointCounts.{point-moves}
+use Rattle.book.proofs.Walks.{PointsAt, point-points, segment-points, walk-points, points-count, segment-moves}
 use Rattle.book.proofs.Lists.{all-append}
 use Rattle.book.specs.Lists.{All}
 use Rattle.book.proofs.Passes.{passFrom-induction, pass-count}
@@ -20,7 +21,8 @@ use Rattle.book.proofs.Questions.{decide-outcomes}
 use Rattle.book.specs.Book.{Book, pendingCount}
 use Rattle.book.specs.Calls.{electedEntry, electedEntries, countsOf, pendingIn, segmentQuestions, SegmentOutcome, segmentCall}
 use Rattle.book.specs.Calls.{WalkOutcome, walkQuestions, walkCall, pass, PassOutcome, passQuestions, passed, passCall, RunOutcome, runOver, runCall}
-use Rattle.book.specs.Evaluation.{Fill, Evaluated, segment}
+use Rattle.book.specs.Evaluation.{Fill, Evaluated, sellsFirst, segment}
+use Rattle.book.specs.StepCall.{stepQuestions, stepCall}
 use Rattle.book.specs.Path.{segmentOf}
 use Rattle.error.specs.Questions.{firstNo}
 use Rattle.book.specs.Words.{bookOf, wellFormed}
@@ -30,7 +32,7 @@ use Rattle.book.specs.declared.LastPrice.{LastPrice}
 use Rattle.book.specs.declared.PrintPath.{PrintPath}
 use Rattle.book.specs.declared.PrintSegment.{PrintSegment}
 use Rattle.book.specs.declared.Settings.{Settings}
-use Rattle.evaluation.proofs.Questions.{segment-room, walk-room}
+use Rattle.evaluation.proofs.Questions.{segment-room, step-room, walk-room}
 use Rattle.evaluation.proofs.Passes.{pass-elected}
 use Rattle.pending_stops.proofs.Found.{wellFormed-stored}
 use Rattle.points.proofs.Steps.{stored-few}
@@ -208,3 +210,39 @@ module _ (s : Settings) (prints : PrintSegment) (w : List ℕ) (elected moved : 
   pub segment-cut : segmentCall s prints w (min elected mostRecords) (min moved (2 * mostRecords)) ≡ segmentTo
   unfolding segmentCall
   segment-cut = rw segment-questions
+
+------------------------------------------------------------------------
+-- Step
+
+module _ (s : Settings) (falls : Bool) (from : LastPrice) (price : Price) (w : List ℕ) (elected moved : ℕ) where
+  abbrev stepTo : SegmentOutcome
+  stepTo = stepCall s falls from price w elected moved
+
+  pub step-lists : ListsElected (electedCount (stepTo .answer)) (stepTo .elected) elected
+      × Listed (movedCount (stepTo .answer)) (stepTo .moved) moved
+  unfolding stepCall electedCount movedCount countsOf
+  step-lists =
+      let first = sellsFirst falls from price in
+      decide-outcomes (λ (o : SegmentOutcome). ListsElected (electedCount (o .answer)) (o .elected) elected
+      × Listed (movedCount (o .answer)) (o .moved) moved) (firstNo (stepQuestions w elected moved)) _ _
+      (λ k. (nothing-listed elected, record { counted = refl; few = zero-le }))
+      (λ h. (
+        evaluation-lists s elected (point-points (s .kill) first price (bookOf w)) (step-room w elected moved (sym h) .0),
+        record {
+          counted = refl;
+          few = omega (arith, point-moves (s .kill) first price (bookOf w), step-room w elected moved (sym h) .1);
+        },
+      ))
+
+  step-questions : firstNo (stepQuestions w (min elected mostRecords) (min moved mostRecords)) ≡ firstNo
+      (stepQuestions w elected moved)
+  unfolding firstNo stepQuestions
+  step-questions = cases (wellFormed w)
+      (λ h. rw (
+        cut-leb (pendingIn w) elected mostRecords (pending-few w h),
+        cut-leb (pendingIn w) moved mostRecords (pending-few w h),
+      )) (λ h. rw h)
+
+  pub step-cut : stepCall s falls from price w (min elected mostRecords) (min moved mostRecords) ≡ stepTo
+  unfolding stepCall
+  step-cut = rw step-questions
