@@ -1,5 +1,5 @@
 -- What the words of an argument stand for. Those of a kind, a side, a change, a selector and a path's flags may be unknown; any but
--- 0 is on for a kill switch and for a price that may be absent.
+-- 0 is on for a kill switch, for whether a run falls and for a price that may be absent.
 use Prim.Native.Nat.{ℕ}
 use mathlib.Core.Bool.{Bool, not, cond, _&&_, _||_}
 use mathlib.Core.List.{List}

@@ -20,6 +20,7 @@ use Rattle.book.specs.declared.PassCounts.{PassCounts}
 use Rattle.book.specs.Calls as calls
 use Rattle.book.specs.Collect.{CollectOutcome, collect, massCancel}
 use Rattle.book.specs.Ladder.{LadderOutcome, ladder}
+use Rattle.book.specs.StepCall.{stepCall}
 use Rattle.book.specs.TurningPoints.{TurningPointsOutcome, turningPointsCall}
 use Rattle.book.specs.Path.{recorded, closed, take}
 use Rattle.book.specs.Store.{StoreOutcome, PathOutcome, admit, cancel, clear, find}
@@ -121,6 +122,10 @@ resetByWords path = onPath path tt (closed (pathOf path))
 
 abbrev pub segmentByWords : List ℕ → List ℕ → List ℕ → ℕ → ℕ → SegmentOutcome
 segmentByWords settings prints w elected moved = segmentCall (settingsOf settings) (printsOf prints) w elected moved
+
+abbrev pub stepByWords : List ℕ → ℕ → List ℕ → ℕ → List ℕ → ℕ → ℕ → SegmentOutcome
+stepByWords settings falls from p w elected moved =
+    stepCall (settingsOf settings) (isOn falls) (lastPriceOf from) (price p) w elected moved
 
 abbrev pub walkByWords : List ℕ → List ℕ → List ℕ → List ℕ → ℕ → WalkOutcome
 walkByWords settings prev prices w elected = walkCall (settingsOf settings) (lastPriceOf prev) (map toPrice prices) w elected

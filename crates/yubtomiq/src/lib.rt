@@ -24,7 +24,7 @@ ghost use Rattle.both_ways.specs.Alike.{Decided};
 ghost use Rattle.both_ways.specs.Ends.{Comparable};
 ghost use Rattle.yubtomiq.specs.BothWays.{endsByWords, turnsByWords, wayWords};
 ghost use Rattle.host_words.specs.Answers.{Told, number, flag, seqWords, idWords, termsWords, segmentWords, foundWords, listedWords, totalsWords, countsWords, passWords, previewWords};
-ghost use Rattle.host_words.specs.ByWords.{admitByWords, clearByWords, cancelByWords, updateByWords, findByWords, collectByWords, massCancelByWords, ladderByWords, turningPointsByWords, recordByWords, takeByWords, resetByWords, segmentByWords, walkByWords, passByWords, runByWords, trailedByWords, electedByWords, inconsistencyByWords, previewByWords, limitByWords, checkOf, childByWords};
+ghost use Rattle.host_words.specs.ByWords.{admitByWords, clearByWords, cancelByWords, updateByWords, findByWords, collectByWords, massCancelByWords, ladderByWords, turningPointsByWords, recordByWords, takeByWords, resetByWords, segmentByWords, stepByWords, walkByWords, passByWords, runByWords, trailedByWords, electedByWords, inconsistencyByWords, previewByWords, limitByWords, checkOf, childByWords};
 
 // ---------------------------------------------------------------------
 // The store
@@ -244,6 +244,29 @@ pub extern "C" fn yubtomiq_segment(
         × (now (moved .exit) ≡ written (map movedWords (o .moved)) (now (moved .entry)))) ⌝ }
 {
     host_evaluation::segment(s, settings, prints, elected, moved, answer)
+}
+
+// A step of a walk: a point at a price, arrived from another, of a run that falls as a whole (any word but 0) or does not.
+// Lists the elected and the moved, and answers how many moves and elected there were. Refused: 1, 14.
+#[no_mangle]
+pub extern "C" fn yubtomiq_step(
+    s: &mut [u64],
+    settings: &[u64; 4],
+    falls: u64,
+    from: &[u64; 2],
+    price: u64,
+    elected: &mut [ElectedWords],
+    moved: &mut [MovedWords],
+    answer: &mut [u64; 2],
+) -> u64
+    ensures { λ r. ⌜ (let o = stepByWords (now (settings .entry)) falls (now (from .entry)) price (now (s .entry)) (length (now (elected .entry)))
+        (length (now (moved .entry))) in
+        Told countsWords (o .answer) (now (answer .entry)) r (now (answer .exit))
+        × (now (s .exit) ≡ o .words)
+        × (now (elected .exit) ≡ written (map electedWords (o .elected)) (now (elected .entry)))
+        × (now (moved .exit) ≡ written (map movedWords (o .moved)) (now (moved .entry)))) ⌝ }
+{
+    host_evaluation::step(s, settings, falls, from, price, elected, moved, answer)
 }
 
 // A walk, which lists the elected, and answers how many moves and elected there were. Refused: 1, 14, 16.
