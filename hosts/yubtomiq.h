@@ -42,7 +42,7 @@ enum yubtomiq_refusal {
     YUBTOMIQ_SEQUENCE_EXHAUSTED = 11,
     YUBTOMIQ_ORDER_NOT_FOUND = 12,
     YUBTOMIQ_SAME_PRICE = 13,              /* a change of the price alone, to the price that it is */
-    YUBTOMIQ_LIST_TOO_SHORT = 14,          /* elected, collected and of a ladder: the pending count; moved, of a segment: twice that; turning points: the number of prices */
+    YUBTOMIQ_LIST_TOO_SHORT = 14,          /* elected, collected, of a ladder and moved, of a step: the pending count; moved, of a segment: twice that; turning points: the number of prices */
     YUBTOMIQ_INVALID_SCRIPT = 15,          /* no whole entries, or a flag that is not 0 or 1 */
     YUBTOMIQ_PRICE_COUNT_OUT_OF_RANGE = 16, /* prices of a run: 1 to 4,096 */
     YUBTOMIQ_ZERO_COLLAR = 17,
@@ -217,7 +217,7 @@ typedef struct yubtomiq_elected {
     uint64_t has_limit, limit_high, limit_low, child_high, child_low, child_pending;
 } yubtomiq_elected;
 
-/* An entry of a segment's moved list, with the new stop. */
+/* An entry of the moved list of a segment or a step, with the new stop. */
 typedef struct yubtomiq_moved {
     uint64_t kind, high, low, stop;
 } yubtomiq_moved;
@@ -289,6 +289,15 @@ uint64_t yubtomiq_reset_path(yubtomiq_path *path);
 uint64_t yubtomiq_segment(uint64_t *words, size_t count, const yubtomiq_settings *settings, const yubtomiq_prints *prints,
                           yubtomiq_elected *elected, size_t elected_count, yubtomiq_moved *moved, size_t moved_count,
                           yubtomiq_counts *answer);
+
+/* A step of a walk: a point at one price, arrived from another (`from`), of a run that falls as a whole or does not. `falls` is yes where the run's
+ * last price is its first or below it; one price does not show it, and it decides which side goes first where the run has come from nowhere or stays.
+ * Proved: along a run, each step arrived from the price before it, the steps list in turn what the walk over the run lists, but that child_pending is
+ * decided after each step; the moves and the elected add up to the walk's; and the last step leaves the walk's store. Each list has an entry for
+ * every pending stop. Refused: 1, 14. */
+uint64_t yubtomiq_step(uint64_t *words, size_t count, const yubtomiq_settings *settings, uint64_t falls, const yubtomiq_price *from,
+                       uint64_t price, yubtomiq_elected *elected, size_t elected_count, yubtomiq_moved *moved, size_t moved_count,
+                       yubtomiq_counts *answer);
 
 /* A walk: a point at each price in turn. Refused: 1, 14, 16. */
 uint64_t yubtomiq_walk(uint64_t *words, size_t count, const yubtomiq_settings *settings, const yubtomiq_price *prev,

@@ -107,6 +107,19 @@ pub mod library {
             moved_count: usize,
             answer: &mut [u64; 2],
         ) -> u64;
+        pub fn yubtomiq_step(
+            words: *mut u64,
+            count: usize,
+            settings: &[u64; 4],
+            falls: u64,
+            from: &[u64; 2],
+            price: u64,
+            elected: *mut ElectedWords,
+            elected_count: usize,
+            moved: *mut MovedWords,
+            moved_count: usize,
+            answer: &mut [u64; 2],
+        ) -> u64;
         pub fn yubtomiq_walk(
             words: *mut u64,
             count: usize,
@@ -629,7 +642,7 @@ pub struct Totals {
     pub buy: u128,
 }
 
-/// What a segment did.
+/// What a segment or a step did.
 #[derive(Clone, Debug, PartialEq, Eq)]
 pub struct Segment {
     pub moved: Vec<Moved>,
@@ -850,6 +863,31 @@ impl Store {
                 self.words.len(),
                 &settings.words(),
                 &prints.words(),
+                elected.as_mut_ptr(),
+                elected.len(),
+                moved.as_mut_ptr(),
+                moved.len(),
+                &mut answer,
+            )
+        };
+        done(number, answer).map(|[moves, count]| Segment::of(&moved[..moves as usize], &elected[..count as usize]))
+    }
+
+    /// A step of a walk: a point at one price, arrived from another, of a run that falls as a whole (its last price is its first or below it) or does
+    /// not. Along a run, each from the price before it, the steps list in turn what the walk lists, but that `child_pending` is decided after each
+    /// step; moves and elected add up to the walk's, and the last step leaves the walk's store.
+    pub fn step(&mut self, settings: Settings, falls: bool, from: Option<u64>, price: u64) -> Result<Segment, Refusal> {
+        let mut elected = self.list();
+        let mut moved = vec![[0; MOVED_WORDS]; elected.len()];
+        let mut answer = [0; 2];
+        let number = unsafe {
+            library::yubtomiq_step(
+                self.words.as_mut_ptr(),
+                self.words.len(),
+                &settings.words(),
+                u64::from(falls),
+                &price_words(from),
+                price,
                 elected.as_mut_ptr(),
                 elected.len(),
                 moved.as_mut_ptr(),

@@ -160,6 +160,62 @@ static void lists(void) {
     same("beyond", words[WORDS + 1], 78);
 }
 
+/* The step: refusals in their order, what it leaves, a tie told both ways, and the steps along runs against their walks. */
+static void steps(void) {
+    uint64_t words[LENT], before[LENT];
+    lay_out(words);
+    memcpy(before, words, sizeof words);
+    yubtomiq_elected elected[4], walked[4], lent;
+    yubtomiq_moved moved[4];
+    yubtomiq_counts counts = {5, 5}, walk;
+    memset(elected, 1, sizeof elected);
+    memset(moved, 1, sizeof moved);
+    lent = elected[0];
+    same("step, no store", yubtomiq_step(words, 8, &PLAIN, 1, &NONE, 94, elected, 0, moved, 0, &counts), 1);
+    same("step, elected short", yubtomiq_step(words, LENT, &PLAIN, 1, &NONE, 94, elected, 2, moved, 3, &counts), 14);
+    same("step, moved short", yubtomiq_step(words, LENT, &PLAIN, 1, &NONE, 94, elected, 3, moved, 2, &counts), 14);
+    same_words("step, refused: the store", words, before, LENT);
+    same_words("step, refused: the elected", elected, &lent, WORDS_OF(yubtomiq_elected));
+    same_words("step, refused: the moved", moved, &lent, 4);
+    same("step, refused: the counts", counts.moves + counts.elected, 10);
+    same("step", yubtomiq_step(words, LENT, &(yubtomiq_settings){0, 3, 0, 0}, 1, &(yubtomiq_price){1, 96}, 94, elected, 3, moved, 3, &counts), 0);
+    same_words("step, counts", &counts, &(yubtomiq_counts){1, 1}, 2);
+    const yubtomiq_elected first = {2, 0, 1, YUBTOMIQ_SELL, 95, 10, 0, 94, 1, 0, 92, elected[0].child_high, elected[0].child_low, 0};
+    same_words("step, the elected entry", &elected[0], &first, WORDS_OF(yubtomiq_elected));
+    same_words("step, the next entry stays", &elected[1], &lent, WORDS_OF(yubtomiq_elected));
+    same_words("step, the move", &moved[0], &(yubtomiq_moved){2, 0, 3, 104}, 4);
+    same_words("step, the next move stays", &moved[1], &lent, 4);
+    same("step, beyond", words[WORDS], 77);
+
+    static const uint64_t tied[39] = {2, 2, 2, 0, 1, 1, 2, 2, 0, 2, 0, 7, 1, 100, 100, 5, 1, 0, 0, 0, 0, 0, 0, 0, 2, 0, 9, 0, 100, 100, 5, 1, 1};
+    uint64_t store[39];
+    for (uint64_t falls = 0; falls < 3; falls++) {
+        memcpy(store, tied, sizeof tied);
+        same("step, tied", yubtomiq_step(store, 39, &PLAIN, falls, &NONE, 100, elected, 2, moved, 2, &counts), 0);
+        same("step, tied: the first", elected[0].low, falls ? 7 : 9);
+        same("step, tied: the second", elected[1].low, falls ? 9 : 7);
+    }
+
+    static const uint64_t runs[4][4] = {{100, 101, 104, 110}, {100, 96, 95, 90}, {100, 0, UINT64_MAX, 100}, {99, 104, 104, 98}};
+    for (size_t r = 0; r < 4; r++) {
+        uint64_t n = 0, moves = 0, falls = runs[r][3] <= runs[r][0];
+        yubtomiq_price from = NONE;
+        lay_out(words);
+        memcpy(before, words, sizeof words);
+        same("the walk of the steps", yubtomiq_walk(words, LENT, &PLAIN, &NONE, runs[r], 4, walked, 3, &walk), 0);
+        for (size_t i = 0; i < 4; i++) {
+            same("step of a run", yubtomiq_step(before, LENT, &PLAIN, falls, &from, runs[r][i], elected, 3, moved, 3, &counts), 0);
+            for (size_t k = 0; k < counts.elected; k++, n++)
+                same_words("elected by step and by walk", &elected[k], &walked[n], WORDS_OF(yubtomiq_elected));
+            moves += counts.moves;
+            from = (yubtomiq_price){1, runs[r][i]};
+        }
+        same("elected by the steps", n, walk.elected);
+        same("moves of the steps", moves, walk.moves);
+        same_words("the store of the steps", before, words, LENT);
+    }
+}
+
 static void limit_above_the_top(void) {
     uint64_t words[LENT];
     lay_out(words);
@@ -423,6 +479,9 @@ static void *worst(void *unused) {
     same("segment, all", yubtomiq_segment(full, FULL, &PLAIN, &all, elected_list, MOST, moved_list, 2 * MOST, &counts), 0);
     same("segment, all elected", counts.elected, MOST);
     fill(full);
+    same("step, all", yubtomiq_step(full, FULL, &PLAIN, 1, &NONE, 1, elected_list, MOST, moved_list, MOST, &counts), 0);
+    same("step, all elected", counts.elected, MOST);
+    fill(full);
     fill(other);
     yubtomiq_evaluate_both_ways(full, FULL, other, FULL, &PLAIN, &NONE, falling, 2, elected_list, MOST, moved_list, 2 * MOST, other_list, MOST, &both);
     same("both ways, by the ends", both.ends_number, 0);
@@ -483,6 +542,7 @@ int main(void) {
     refused_values();
     stack();
     lists();
+    steps();
     limit_above_the_top();
     answers();
     collected();

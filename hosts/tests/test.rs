@@ -161,6 +161,7 @@ fn damaged(c: &mut Checks) {
         c.refused(s.ladder(&[]), no);
         c.refused(s.clear(&mut path), no);
         c.refused(s.segment(Settings::default(), prints(None, 1, 1)), no);
+        c.refused(s.step(Settings::default(), true, None, 1), no);
         c.refused(s.walk(Settings::default(), None, &[]), no);
         c.refused(s.evaluate_pending_stops(Settings::default(), &[2], prints(None, 1, 1)), no);
         c.refused(s.run_stop_triggers(&mut path, Settings::default(), &[2], None), no);
@@ -307,6 +308,51 @@ fn run_and_ends(c: &mut Checks) {
     }
 }
 
+/// The steps along runs against the walk over each, on equal stores; and a tie, which a segment of one print elects the other way round.
+fn steps_and_walk(c: &mut Checks) {
+    let tied = [sell(100, 100, 5), buy(100, 100, 5)];
+    for (falls, from, order) in [(false, None, [2, 1]), (true, None, [1, 2]), (false, Some(101), [1, 2]), (true, Some(99), [2, 1]), (false, Some(100), [2, 1])] {
+        let done = store(2, 0, &tied).step(Settings::default(), falls, from, 100).expect("a step");
+        c.same("which side first, in a step", names(&done.elected), order.map(|id| (id, 100)).to_vec());
+    }
+    let segment = store(2, 0, &tied).segment(Settings::default(), prints(None, 100, 100)).expect("a segment");
+    c.same("one print counts as a fall", names(&segment.elected), vec![(1, 100), (2, 100)]);
+    let stops = [sell(95, 100, 5), sell(97, 99, 3), buy(104, 101, 2), buy(102, 100, 2), sell(80, 100, 20), buy(MAX, 103, 3), sell(0, 3, 3)];
+    for (kill, collar) in [(false, collar(2).ok()), (true, None)] {
+        let settings = Settings { kill, collar, namespace: Namespace { high: 1, low: 2 } };
+        for run in [&[100, 101][..], &[99, 101, 102, 107], &[100, 98, 97, 96, 90], &[100], &[104, 104, 103, 120, 96, 96], &[100, 0, MAX, MAX, 0]] {
+            for prev in [None, Some(100), Some(run[0])] {
+                let mut walked = store(8, 0, &stops);
+                let mut stepped = walked.clone();
+                let walk = walked.walk(settings, prev, run).expect("a walk");
+                let (mut from, mut moves, mut elected) = (prev, 0, vec![]);
+                for &price in run {
+                    let step = stepped.step(settings, run[run.len() - 1] <= run[0], from, price).expect("a step");
+                    moves += step.moved.len() as u64;
+                    elected.extend(step.elected);
+                    from = Some(price);
+                }
+                c.same("steps and walk", Walk { moves, elected }, walk);
+                c.same("the stores after steps and walk", &stepped, &walked);
+            }
+        }
+    }
+    // the child of the first is the second stop: pending after the step that elects the first, and no more after the walk
+    let child = stop_trigger_order_id(Namespace { high: 0, low: 0 }, Id::sequential(1));
+    let mut walked = store(2, 0, &[sell(95, 100, 5)]);
+    let admitted = walked.admit_trailing_stop(&mut PrintPath::default(), false, None, child, sell(90, 100, 10), 1, holder(1));
+    c.same("the child's own stop", admitted, Ok(1));
+    let mut stepped = walked.clone();
+    let flags = |e: &[Elected]| e.iter().map(|e| e.child_pending).collect::<Vec<bool>>();
+    let first = stepped.step(Settings::default(), true, None, 95).expect("a step");
+    c.same("pending after the step", flags(&first.elected), vec![true]);
+    let second = stepped.step(Settings::default(), true, Some(95), 90).expect("a step");
+    c.same("the second has no pending child", flags(&second.elected), vec![false]);
+    let walk = walked.walk(Settings::default(), None, &[95, 90]).expect("a walk");
+    c.same("not pending after the walk", flags(&walk.elected), vec![false, false]);
+    c.same("the stores are equal", &stepped, &walked);
+}
+
 fn limits_above_the_top(c: &mut Checks) {
     let whole = store(3, 0, &[buy(MAX - 4, 100, 5), buy(MAX, 100, 5)]);
     let settings = Settings { kill: false, collar: collar(4).ok(), namespace: Namespace { high: 0, low: 0 } };
@@ -434,6 +480,7 @@ fn main() {
     order_example(&mut c);
     turning_example(&mut c);
     run_and_ends(&mut c);
+    steps_and_walk(&mut c);
     both_ways(&mut c);
     both_runs(&mut c);
     limits_above_the_top(&mut c);
