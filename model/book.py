@@ -444,13 +444,16 @@ def point(book, kill, sells_first, price):
     return moved, elected
 
 
-def points(book, settings, prev, prices):
-    """A point at each price in turn; entries of the elected are told apart from the book after the last."""
+def falls_as_a_whole(prices):
+    return prices[-1] <= prices[0]
+
+
+def points(book, settings, prev, prices, falls):
+    """A point at each price in turn, of a run that falls as a whole or does not; entries of the elected are told apart from the book after the last."""
     kill, collar, namespace = settings
     moved, elected, arrived = [], [], prev
     for price in prices:
-        falls = prices[-1] <= prices[0] if arrived is None or arrived == price else price < arrived
-        m, e = point(book, kill, falls, price)
+        m, e = point(book, kill, falls if arrived is None or arrived == price else price < arrived, price)
         moved, elected, arrived = moved + m, elected + e, price
     entries = []
     for stop, trigger in elected:
@@ -479,7 +482,19 @@ def segment(w, settings, prev, first, last, elected_room, moved_room):
     count = len(book.stops())
     if elected_room < count or moved_room < 2 * count:
         return Listed(14)
-    moved, entries = points(book, settings, prev, segment_prices(first, last))
+    moved, entries = points(book, settings, prev, segment_prices(first, last), last <= first)
+    write(w, book)
+    return Listed(0, [len(moved), len(entries)], entries, [[*i, stop] for i, stop in moved])
+
+
+def step(w, settings, falls, prev, price, elected_room, moved_room):
+    """One point of a walk, for which the caller says whether the whole run falls."""
+    book = read(w)
+    if not book:
+        return Listed(1)
+    if min(elected_room, moved_room) < len(book.stops()):
+        return Listed(14)
+    moved, entries = points(book, settings, prev, [price], falls != 0)
     write(w, book)
     return Listed(0, [len(moved), len(entries)], entries, [[*i, stop] for i, stop in moved])
 
@@ -492,7 +507,7 @@ def walk(w, settings, prev, prices, elected_room):
         return Listed(14)
     if not 1 <= len(prices) <= MOST_PRICES:
         return Listed(16)
-    moved, entries = points(book, settings, prev, prices)
+    moved, entries = points(book, settings, prev, prices, falls_as_a_whole(prices))
     write(w, book)
     return Listed(0, [len(moved), len(entries)], entries)
 
@@ -509,7 +524,7 @@ def pass_over(w, book, settings, script, prev, first, last):
     queue, moves, listed, used = [(prev, first, last)], 0, [], 0
     while queue and book.stops():
         prev, first, last = queue.pop(0)
-        moved, entries = points(book, settings, prev, segment_prices(first, last))
+        moved, entries = points(book, settings, prev, segment_prices(first, last), last <= first)
         moves += len(moved)
         listed += entries
         for entry in entries:

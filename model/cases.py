@@ -9,6 +9,7 @@ import forecast
 import ladder_cases
 import preview_cases
 import session
+import step_cases
 import store_cases
 import turning_cases
 
@@ -22,7 +23,7 @@ def write(crate, lines, answers):
             out.write(text)
 
 
-CALLS = store_cases, evaluation_cases, preview_cases, ladder_cases, turning_cases
+CALLS = store_cases, evaluation_cases, preview_cases, ladder_cases, turning_cases, step_cases
 
 write("call_cases", [line for cases in CALLS for line in cases.lines()], session.answers)
 write("forecast_cases", forecast.lines(), forecast.answers)

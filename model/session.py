@@ -133,13 +133,15 @@ class Session:
         settings, room = (n[0], n[1], n[2:4]), self.rooms[:2]
         if name == "segment":
             r = book.segment(w, settings, book.maybe(n[4:6]), n[6], n[7], *room)
+        elif name == "step":
+            r = book.step(w, settings, n[4], book.maybe(n[5:7]), n[7], *room)
         elif name == "walk":
             r = book.walk(w, settings, book.maybe(n[4:6]), n[6:], room[0])
         elif name == "pass":
             r = book.evaluate_pending_stops(w, settings, n[8:], book.maybe(n[4:6]), n[6], n[7], room[0])
         else:
             r = book.run_stop_triggers(w, self.path, settings, n[6:], book.maybe(n[4:6]), room[0])
-        line = told(r.number, r.answer, 2 if name in ("segment", "walk") else 3)
+        line = told(r.number, r.answer, 2 if name in ("segment", "step", "walk") else 3)
         if name == "run":
             line += self.with_path()
         return line + listed("elected", r.elected) + listed("moved", r.moved)
@@ -159,7 +161,7 @@ class Session:
         elif name == "turns":
             line = self.turned(n)
         else:
-            line = (self.evaluated if name in ("segment", "walk", "pass", "run") else self.altered)(w, name, n)
+            line = (self.evaluated if name in ("segment", "step", "walk", "pass", "run") else self.altered)(w, name, n)
         self.buffer[:self.size] = w
         return line + self.shown()
 
@@ -176,7 +178,7 @@ class Session:
             return self.of_path(name, n)
         if name in ("well_formed", "quantity", "find"):
             return self.asked(name, n)
-        if name in ("layout", "clear", "cancel", "admit", "update", "segment", "walk", "pass", "run", "collect", "mass_cancel", "ladder", "turns"):
+        if name in ("layout", "clear", "cancel", "admit", "update", "segment", "step", "walk", "pass", "run", "collect", "mass_cancel", "ladder", "turns"):
             return self.on_store(name, n)
         return self.of_terms(name, n)
 

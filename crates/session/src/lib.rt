@@ -18,6 +18,7 @@
 //     update ID CHANGE MAYBE                                               CHANGE: kind, side, price, quantity
 //     segment SETTINGS PRINTS, walk SETTINGS MAYBE PRICE ..                SETTINGS: kill, collar, namespace high, low
 //     pass SETTINGS PRINTS SCRIPT, run SETTINGS MAYBE SCRIPT               PRINTS: MAYBE, first, last
+//     step SETTINGS FALLS MAYBE PRICE                                      FALLS: 0 no, any other yes
 //     collect SELECTOR, mass_cancel SELECTOR                               SELECTOR: 0 HOLDER; 1 SIDE; 2 lowest, highest
 //     ladder PRICE .., turns PRICE ..
 //

@@ -13,10 +13,12 @@ use session_text::names;
 use session_text::numbers::four;
 use session_text::numbers::rest;
 use session_text::numbers::two;
+use session_text::numbers::word;
 use session_text::printing;
 use yubtomiq::yubtomiq_evaluate_pending_stops;
 use yubtomiq::yubtomiq_run_stop_triggers;
 use yubtomiq::yubtomiq_segment;
+use yubtomiq::yubtomiq_step;
 use yubtomiq::yubtomiq_walk;
 
 mod collecting;
@@ -70,6 +72,31 @@ fn segment_of(
 fn segment(s: &mut [u64], n: &[u64], elected: &mut [ElectedWords], moved: &mut [MovedWords]) {
     let mut answer = [LENT; 2];
     let r = segment_of(s, n, elected, moved, &mut answer);
+    printing::two(r, &answer);
+}
+
+fn step_of(
+    s: &mut [u64],
+    n: &[u64],
+    elected: &mut [ElectedWords],
+    moved: &mut [MovedWords],
+    answer: &mut [u64; 2],
+) -> u64 {
+    yubtomiq_step(
+        s,
+        &four(n),
+        word(n, 4),
+        &two(rest(n, 5)),
+        word(n, 7),
+        elected,
+        moved,
+        answer,
+    )
+}
+
+fn step(s: &mut [u64], n: &[u64], elected: &mut [ElectedWords], moved: &mut [MovedWords]) {
+    let mut answer = [LENT; 2];
+    let r = step_of(s, n, elected, moved, &mut answer);
     printing::two(r, &answer);
 }
 
@@ -130,6 +157,7 @@ fn evaluate(
         names::SEGMENT => segment(s, n, elected, moved),
         names::WALK => walk(s, n, elected),
         names::PASS => pass(s, n, elected),
+        names::STEP => step(s, n, elected, moved),
         _ => triggers(s, path, n, elected),
     }
 }

@@ -49,31 +49,33 @@ pub const PASS: u64 = 22;
 
 pub const RUN: u64 = 23;
 
-pub const COLLECT: u64 = 24;
+pub const STEP: u64 = 24;
 
-pub const MASS_CANCEL: u64 = 25;
+pub const COLLECT: u64 = 25;
 
-pub const LADDER: u64 = 26;
+pub const MASS_CANCEL: u64 = 26;
 
-pub const TURNS: u64 = 27;
+pub const LADDER: u64 = 27;
 
-pub const WORDS: u64 = 28;
+pub const TURNS: u64 = 28;
 
-pub const SET: u64 = 29;
+pub const WORDS: u64 = 29;
 
-pub const STORE: u64 = 30;
+pub const SET: u64 = 30;
 
-pub const BOOK: u64 = 31;
+pub const STORE: u64 = 31;
 
-pub const PATH: u64 = 32;
+pub const BOOK: u64 = 32;
 
-pub const LISTS: u64 = 33;
+pub const PATH: u64 = 33;
 
-pub const SHOW: u64 = 34;
+pub const LISTS: u64 = 34;
+
+pub const SHOW: u64 = 35;
 
 // Every name, with a space behind it.
-const NAMES: [u8; 246] =
-    *b"trailed elected_by inconsistency preview draw limit collar collar_tick child record take reset well_formed quantity find layout clear cancel admit update segment walk pass run collect mass_cancel ladder turns words set store book path lists show ";
+const NAMES: [u8; 251] =
+    *b"trailed elected_by inconsistency preview draw limit collar collar_tick child record take reset well_formed quantity find layout clear cancel admit update segment walk pass run step collect mass_cancel ladder turns words set store book path lists show ";
 
 // Whether two texts are the same.
 fn same(a: &[u8], b: &[u8]) -> bool {
