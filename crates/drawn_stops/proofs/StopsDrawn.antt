@@ -2,7 +2,7 @@
 use Prim.Native.Nat.{ℕ, _-_, _≤_}
 use mathlib.Core.Path.{_≡_, refl}
 use mathlib.Core.Bool.{Bool, true, not, _||_}
-use mathlib.Core.List.{List, []}
+use mathlib.Core.List.{List, [], _∷_}
 use mathlib.Core.Option.{some}
 use borrow.Table.Steps.{cases}
 use lib.Dec.{eqb}
@@ -19,13 +19,14 @@ use Rattle.book.proofs.Found.{find-held, held-find}
 use Rattle.book.proofs.Lists.{all-map}
 use Rattle.book.proofs.Passes.{pass-valid, pass-fits, pass-kept}
 use Rattle.book.proofs.Questions.{firstNo-none}
-use Rattle.book.proofs.Walks.{Kept, PriceFits, PointsAt, segment-points, walk-points, points-valid, points-fits, points-kept, SegmentFits, segmentPrices-fits}
+use Rattle.book.proofs.Walks.{Kept, PriceFits, PointsAt, point-points, segment-points, walk-points, points-valid, points-fits, points-kept, SegmentFits, segmentPrices-fits}
 use Rattle.book.proofs.WellFormed.{IsWord}
 use Rattle.book.specs.Book.{vacant, Book}
 use Rattle.book.specs.Calls.{electedEntries, SegmentOutcome, segmentQuestions, segmentCall, WalkOutcome, walkQuestions, walkCall, pendingIn, pass, PassOutcome, passQuestions, passed, passCall, RunOutcome, runOver, runCall}
-use Rattle.book.specs.Evaluation.{Evaluated, segmentPrices, segment, walk}
+use Rattle.book.specs.Evaluation.{Evaluated, sellsFirst, segmentPrices, segment, walk}
 use Rattle.book.specs.Lists.{All}
 use Rattle.book.specs.Path.{segmentOf}
+use Rattle.book.specs.StepCall.{stepped, stepQuestions, stepCall}
 use Rattle.book.specs.Store.{storedBook, find}
 use Rattle.book.specs.Valid.{Valid, Fits}
 use Rattle.book.specs.Words.{bookOf, wellFormed}
@@ -101,12 +102,12 @@ points-drawn s prices w o formed fits r =
 ------------------------------------------------------------------------
 -- The calls
 
--- Document 02, Two, over stores. After every walk over any prices, every segment, every pass and every run over path and
--- store that is not refused: each stop that a search finds in the store, and each elected entry, is of a stop that a
--- search found before the call. A panel that started from that stop's terms, and fed the prices of the call's points to
--- the preview, draws it at the stop that it has: pending, or elected by the price that triggered it. So does every panel
--- that drew it right before the call, and where it is pending still draws it right, so that this goes on from call to
--- call. Prices are 64-bit words.
+-- Document 02, Two, over stores. After every walk over any prices, every segment, every step, every pass and every run
+-- over path and store that is not refused: each stop that a search finds in the store, and each elected entry, is of a
+-- stop that a search found before the call. A panel that started from that stop's terms, and fed the prices of the
+-- call's points to the preview, draws it at the stop that it has: pending, or elected by the price that triggered it.
+-- So does every panel that drew it right before the call, and where it is pending still draws it right, so that this
+-- goes on from call to call. Prices are 64-bit words.
 module _ (s : Settings) (w : List ℕ) (room : ℕ) where
   pub walk-drawn : (prev : LastPrice) (prices : List Price) → All PriceFits prices
       → Accepted (walkCall s prev prices w room .answer)
@@ -130,6 +131,18 @@ module _ (s : Settings) (w : List ℕ) (room : ℕ) where
       (λ e a. points-drawn s (segmentPrices prints) w (segment (s .kill) prints (bookOf w))
       (firstNo-none (segmentQuestions w room moved) e .0) (segmentPrices-fits prints fits)
       (segment-points (s .kill) prints (bookOf w)))
+
+  pub step-drawn : (falls : Bool) (from : LastPrice) (price : Price) (moved : ℕ) → PriceFits price
+      → Accepted (stepCall s falls from price w room moved .answer)
+      → StopsDrawnRight (s .kill) (price ∷ []) w (stepCall s falls from price w room moved .words)
+      (stepCall s falls from price w room moved .elected)
+  unfolding stepCall stepQuestions
+  step-drawn falls from price moved fits =
+      decide-accepted (λ (o : SegmentOutcome). o .answer)
+      (λ o v. StopsDrawnRight (s .kill) (price ∷ []) w (o .words) (o .elected)) _ _ _ (λ k. refl)
+      (λ e a. points-drawn s (price ∷ []) w (stepped (s .kill) falls from price (bookOf w))
+      (firstNo-none (stepQuestions w room moved) e .0) (fits, tt)
+      (point-points (s .kill) (sellsFirst falls from price) price (bookOf w)))
 
   module _ (script : List ℕ) (words : All IsWord script) where
     passed-drawn : (prints : PrintSegment) → SegmentFits prints → wellFormed w ≡ true
