@@ -28,6 +28,7 @@ pub use book::StopEntry;
 pub use book::StopWords;
 pub use book::Totals;
 pub use error::Refusal;
+pub use lent_step::PrintStep;
 pub use pricelevel::Holder;
 pub use pricelevel::Id;
 pub use pricelevel::IdKind;
@@ -122,6 +123,11 @@ pub use lent_store::clear;
 // A segment: a point at its first print, and one at its last if that differs. Refused: the store is not well formed
 // (1); a list is shorter than the pending count asks (14).
 pub use lent_segment::segment;
+
+// A step of a walk: a point at one print of a run, told where the run comes from and whether it falls as a whole. Along a
+// run the steps list what its walk lists, each with its own end for whether a child is pending. Refused: the store is not
+// well formed (1); a list is shorter than the pending count (14).
+pub use lent_step::step;
 
 // A walk: a point at each price in turn. Refused: the store is not well formed (1); the list is shorter than the
 // pending count (14); not 1 to 4,096 prices (16).
