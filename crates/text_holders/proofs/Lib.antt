@@ -1,0 +1,3 @@
+-- Laws of holders, and examples.
+pub mod Packing
+pub mod Examples

@@ -1,0 +1,3 @@
+-- Laws of identities, and examples.
+pub mod Spellings
+pub mod Examples

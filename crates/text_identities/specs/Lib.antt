@@ -1,0 +1,2 @@
+-- The definitions of `text_identities`.
+pub mod Identities
