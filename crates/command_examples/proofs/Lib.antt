@@ -1,0 +1,3 @@
+-- Lines as theorems, which the checker computes.
+pub mod Rows
+pub mod Faults

@@ -1,0 +1,2 @@
+-- Examples of arguments.
+pub mod Examples

@@ -1,0 +1,2 @@
+-- The definitions of `sheet_signatures`.
+pub mod Signatures

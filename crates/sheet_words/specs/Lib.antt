@@ -1,0 +1,2 @@
+-- The definitions of `sheet_words`.
+pub mod Words
