@@ -1,0 +1,3 @@
+-- Laws of `identity_text` that belong to no one function.
+pub mod Identities
+pub mod Examples

@@ -1,0 +1,2 @@
+-- The definitions of `identity_text`.
+pub mod Identities

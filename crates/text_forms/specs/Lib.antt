@@ -1,0 +1,2 @@
+-- The definitions of `text_forms`.
+pub mod Forms

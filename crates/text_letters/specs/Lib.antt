@@ -1,0 +1,2 @@
+-- The definitions of `text_letters`.
+pub mod Letters

@@ -1,0 +1,2 @@
+-- Laws of `text_parts` that belong to no one function.
+pub mod Parts

@@ -1,0 +1,2 @@
+-- The definitions of `text_parts`.
+pub mod Parts

@@ -1,0 +1,3 @@
+-- Laws of `text_pieces` that belong to no one function.
+pub mod Pieces
+pub mod Examples

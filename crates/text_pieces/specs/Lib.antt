@@ -1,0 +1,2 @@
+-- The definitions of `text_pieces`.
+pub mod Pieces

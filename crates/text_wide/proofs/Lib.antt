@@ -1,0 +1,3 @@
+-- Laws of `text_wide` that belong to no one function.
+pub mod Wide
+pub mod Examples

@@ -1,0 +1,2 @@
+-- The definitions of `text_wide`.
+pub mod Wide
