@@ -1,0 +1,3 @@
+-- Laws of `sheet_lines` that belong to no one function.
+pub mod Table
+pub mod Examples

@@ -1,0 +1,3 @@
+-- The definitions of `sheet_lines`.
+pub mod Rows
+pub mod Lines
