@@ -1,9 +1,10 @@
 // What a session lends, and the lines that set it.
 use session_text::names;
-use session_text::numbers::four;
-use session_text::numbers::set;
-use session_text::numbers::word;
 use session_text::printing;
+use word_groups::copy;
+use word_groups::four;
+use word_groups::set;
+use word_groups::word;
 
 // How many words and entries are lent, and what is shown of the store after a call.
 pub struct Desk {
@@ -29,15 +30,6 @@ fn fill(s: &mut [u64], v: u64) {
     let mut i: usize = 0;
     while i < s.len() {
         s[i] = v;
-        i += 1;
-    }
-}
-
-// Copies words to the beginning of others, as many as these have.
-pub fn copy(from: &[u64], to: &mut [u64]) {
-    let mut i: usize = 0;
-    while i < to.len() {
-        to[i] = word(from, i);
         i += 1;
     }
 }

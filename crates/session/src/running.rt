@@ -6,6 +6,7 @@ use session_text::names;
 use session_text::numbers;
 use session_text::printing;
 use session_text::shown;
+use word_groups::copy;
 
 // A call that may alter the store.
 fn alter(call: u64, s: &mut [u64], path: &mut [u64; 4], n: &[u64], desk: Desk) {
@@ -27,7 +28,7 @@ fn alter(call: u64, s: &mut [u64], path: &mut [u64; 4], n: &[u64], desk: Desk) {
 // The same, and what it did to the store.
 fn watch(call: u64, s: &mut [u64], path: &mut [u64; 4], n: &[u64], desk: Desk) {
     let mut before = [0u64; MOST_WORDS];
-    lending::copy(&s[..], &mut before);
+    copy(&s[..], &mut before);
     alter(call, s, path, n, desk);
     shown::show(desk.show, &s[..], &before);
 }

@@ -5,8 +5,8 @@ use book::StopWords;
 use session_text::lent::LENT;
 use session_text::lent::MOST_LISTED;
 use session_text::names;
-use session_text::numbers::five;
 use session_text::printing;
+use word_groups::five;
 use yubtomiq::yubtomiq_collect;
 use yubtomiq::yubtomiq_mass_cancel;
 

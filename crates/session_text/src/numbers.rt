@@ -1,4 +1,4 @@
-// Text read: a byte looked for, the numbers of a line, and groups of them.
+// Text read: a byte looked for, and the numbers of a line.
 ghost use Prim.Native.Nat.{_≤_};
 ghost use lib.ListN.{length};
 
@@ -58,45 +58,4 @@ pub fn read(text: &[u8], from: usize, n: &mut [u64]) -> usize
         i += 1;
     }
     count
-}
-
-// The word at a place; 0 beyond the last.
-pub fn word(n: &[u64], p: usize) -> u64 {
-    if p < n.len() {
-        return n[p];
-    }
-    0
-}
-
-// Sets the word at a place; beyond the last, none.
-pub fn set(n: &mut [u64], p: usize, v: u64) {
-    if p < n.len() {
-        n[p] = v;
-    }
-}
-
-// The words from a place on; none beyond the last.
-pub fn rest(n: &[u64], at: usize) -> &[u64] {
-    if at <= n.len() {
-        return &n[at..];
-    }
-    &n[0..0]
-}
-
-// The first words of some, zeros beyond the last.
-
-pub fn two(n: &[u64]) -> [u64; 2] {
-    [word(n, 0), word(n, 1)]
-}
-
-pub fn three(n: &[u64]) -> [u64; 3] {
-    [word(n, 0), word(n, 1), word(n, 2)]
-}
-
-pub fn four(n: &[u64]) -> [u64; 4] {
-    [word(n, 0), word(n, 1), word(n, 2), word(n, 3)]
-}
-
-pub fn five(n: &[u64]) -> [u64; 5] {
-    [word(n, 0), word(n, 1), word(n, 2), word(n, 3), word(n, 4)]
 }

@@ -1,7 +1,7 @@
 // A line that draws a stop along prices, as the host keeps it and as a panel draws it from the preview, side by side.
-use session_text::numbers::four;
-use session_text::numbers::rest;
 use session_text::printing;
+use word_groups::four;
+use word_groups::rest;
 use yubtomiq::yubtomiq_calculate_trailing_stop_price;
 use yubtomiq::yubtomiq_trailed;
 

@@ -1,10 +1,10 @@
 // Lines that take the print path alone.
 use session_text::lent::LENT;
 use session_text::names;
-use session_text::numbers::rest;
-use session_text::numbers::two;
-use session_text::numbers::word;
 use session_text::printing;
+use word_groups::rest;
+use word_groups::two;
+use word_groups::word;
 use yubtomiq::yubtomiq_record_print;
 use yubtomiq::yubtomiq_reset_path;
 use yubtomiq::yubtomiq_take_path;

@@ -1,12 +1,12 @@
 // Lines that take values alone: terms, limit, collar and child.
 use session_text::lent::LENT;
 use session_text::names;
-use session_text::numbers::four;
-use session_text::numbers::rest;
-use session_text::numbers::three;
-use session_text::numbers::two;
-use session_text::numbers::word;
 use session_text::printing;
+use word_groups::four;
+use word_groups::rest;
+use word_groups::three;
+use word_groups::two;
+use word_groups::word;
 use yubtomiq::yubtomiq_calculate_trailing_stop_price;
 use yubtomiq::yubtomiq_check_collar;
 use yubtomiq::yubtomiq_check_tick_size;
