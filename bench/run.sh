@@ -9,7 +9,7 @@ fi
 here=$(cd "$(dirname "$0")" && pwd)
 root=$(dirname "$here")
 "$root/oracle/build.sh" "$1" >&2
-(cd "$root" && rt staticlib yubtomiq) >&2
+"$root/hosts/build.sh" >&2
 mkdir -p "$here/target"
 rustc -O --edition 2024 --crate-name bench --extern published="$root/oracle/target/libpublished.rlib" \
     -L "native=$root/target/staticlib" -l static=yubtomiq -o "$here/target/bench" "$here/src/main.rs"

@@ -11,7 +11,7 @@ root=$(dirname "$here")
 count=${2:-1000000}
 seed=${3:-$(date +%s)}
 "$root/oracle/build.sh" "$1" >&2
-(cd "$root" && rt staticlib yubtomiq) >&2
+"$root/hosts/build.sh" >&2
 mkdir -p "$here/target"
 rustc -O --edition 2024 --crate-name compare -L "native=$root/target/staticlib" -l static=yubtomiq -o "$here/target/compare" "$here/src/main.rs"
 echo "seed $seed, $count calls"

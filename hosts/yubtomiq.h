@@ -15,7 +15,9 @@
  * The words themselves may be any: a damaged store is refused.
  *
  * The stack: no call allocates, and none needs more than YUBTOMIQ_STACK_BYTES of stack, at its worst a pass over YUBTOMIQ_MOST_RECORDS stops whose
- * children's identities are searched in a full store. The proofs do not speak of the stack; tests/test.c runs that worst case on a thread that has no more.
+ * children's identities are searched in a full store; but for yubtomiq_ask_segment and yubtomiq_commit_segment, which hold a copy of the largest store, and
+ * committing the longest lists too: these need up to YUBTOMIQ_COMMIT_STACK_BYTES. The proofs do not speak of the stack; tests/test.c runs these worst cases
+ * on threads that have no more.
  */
 #ifndef YUBTOMIQ_H
 #define YUBTOMIQ_H
@@ -48,6 +50,7 @@ enum yubtomiq_refusal {
     YUBTOMIQ_ZERO_COLLAR = 17,
     YUBTOMIQ_COLLAR_OFF_TICK = 18,
     YUBTOMIQ_TRIAL_PRICE_COUNT_OUT_OF_RANGE = 19, /* prices of a ladder: 1 to 64 */
+    YUBTOMIQ_LISTS_DIFFER = 20,            /* the lists of a commit are not those that the store gives now */
     YUBTOMIQ_UNKNOWN_VALUE = 255           /* asked first: a kind, a side, a change, a selector or a path's flag that is none of those below */
 };
 
@@ -85,8 +88,9 @@ enum yubtomiq_selector_kind {
 #define YUBTOMIQ_MOST_TRIAL_PRICES 64
 #define YUBTOMIQ_NO_PLACE 64
 
-/* Stack that is enough for any call. */
+/* Stack that is enough for any other call, and for one that asks or commits. */
 #define YUBTOMIQ_STACK_BYTES (64 * 1024)
+#define YUBTOMIQ_COMMIT_STACK_BYTES (256 * 1024)
 
 /*
  * The structures are words, in the order of the fields. Of a flag in an argument any value but 0 is "yes", but for those of a path
@@ -289,6 +293,19 @@ uint64_t yubtomiq_reset_path(yubtomiq_path *path);
 uint64_t yubtomiq_segment(uint64_t *words, size_t count, const yubtomiq_settings *settings, const yubtomiq_prints *prints,
                           yubtomiq_elected *elected, size_t elected_count, yubtomiq_moved *moved, size_t moved_count,
                           yubtomiq_counts *answer);
+
+/* Asks what a segment would do: both lists and the answer as it would write them, while the store is only read. Refused: 1, 14. */
+uint64_t yubtomiq_ask_segment(const uint64_t *words, size_t count, const yubtomiq_settings *settings, const yubtomiq_prints *prints,
+                              yubtomiq_elected *elected, size_t elected_count, yubtomiq_moved *moved, size_t moved_count,
+                              yubtomiq_counts *answer);
+
+/* Commits what was asked: does the segment, if the store of this moment gives exactly the lists that are handed in, in length and every word; else it
+ * alters nothing. The counts are those of the entries that asking wrote (`elected` and `moves` of its answer), not the room of its lists, which are only
+ * read. Settings and prints are this call's own, and may differ from those that were asked with, as long as they give the same lists. Proved: asking and
+ * then committing, with no call between, is yubtomiq_segment, in answer, lists and every word of the store. Refused: 1, 20. */
+uint64_t yubtomiq_commit_segment(uint64_t *words, size_t count, const yubtomiq_settings *settings, const yubtomiq_prints *prints,
+                                 const yubtomiq_elected *elected, size_t elected_count, const yubtomiq_moved *moved,
+                                 size_t moved_count, yubtomiq_counts *answer);
 
 /* A step of a walk: a point at one price, arrived from another (`from`), of a run that falls as a whole or does not. `falls` is yes where the run's
  * last price is its first or below it; one price does not show it, and it decides which side goes first where the run has come from nowhere or stays.

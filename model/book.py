@@ -14,6 +14,8 @@ LINKS, HOLDER = 9, 11
 # the words of a holder, of a record without its links, as answers and lists have it, and of a selector
 HOLDER_WORDS = RECORD - HOLDER
 STOP_WORDS, SELECTOR_WORDS = LINKS + HOLDER_WORDS, 1 + HOLDER_WORDS
+# the words of an entry of the elected, and of the moved
+ELECTED_WORDS, MOVED_WORDS = 14, 4
 
 
 def store_words(n):
@@ -485,6 +487,23 @@ def segment(w, settings, prev, first, last, elected_room, moved_room):
     moved, entries = points(book, settings, prev, segment_prices(first, last), last <= first)
     write(w, book)
     return Listed(0, [len(moved), len(entries)], entries, [[*i, stop] for i, stop in moved])
+
+
+def ask_segment(w, settings, prev, first, last, elected_room, moved_room):
+    """What a segment would answer and list; the words stay."""
+    return segment(list(w), settings, prev, first, last, elected_room, moved_room)
+
+
+def commit_segment(w, settings, prev, first, last, elected, moved):
+    """The segment, if the words of its lists would be these; no list is written, so that no room is asked."""
+    book = read(w)
+    if not book:
+        return Listed(1)
+    shifts, entries = points(book, settings, prev, segment_prices(first, last), last <= first)
+    if [list(e) for e in entries] != [list(e) for e in elected] or [[*i, stop] for i, stop in shifts] != [list(m) for m in moved]:
+        return Listed(20)
+    write(w, book)
+    return Listed(0, [len(shifts), len(entries)])
 
 
 def step(w, settings, falls, prev, price, elected_room, moved_room):

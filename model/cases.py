@@ -4,6 +4,7 @@
     model/cases.py        # stdin and stdout of these two crates, stdout of worksheet and worksheet_cases"""
 import os
 
+import commit_cases
 import evaluation_cases
 import forecast
 import ladder_cases
@@ -24,7 +25,7 @@ def write(crate, lines, answers):
             out.write(text)
 
 
-CALLS = store_cases, evaluation_cases, preview_cases, ladder_cases, turning_cases, step_cases
+CALLS = store_cases, evaluation_cases, preview_cases, ladder_cases, turning_cases, step_cases, commit_cases
 
 write("call_cases", [line for cases in CALLS for line in cases.lines()], session.answers)
 write("forecast_cases", forecast.lines(), forecast.answers)

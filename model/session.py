@@ -24,6 +24,16 @@ def known(condition, answer):
     return (0, answer) if condition else (book.UNKNOWN, None)
 
 
+EVALUATE = "segment", "ask", "commit", "step", "walk", "pass", "run"
+
+
+def handed(n):
+    """The entries of both lists in a line that commits."""
+    elected, moved = words_of(n, 8, 2)
+    wide, narrow, from_moved = book.ELECTED_WORDS, book.MOVED_WORDS, 10 + book.ELECTED_WORDS * elected
+    return [words_of(n, 10 + wide * k, wide) for k in range(elected)], [words_of(n, from_moved + narrow * k, narrow) for k in range(moved)]
+
+
 class Session:
     def __init__(self):
         self.buffer, self.size, self.before = [0] * MOST_WORDS, 0, [0] * MOST_WORDS
@@ -133,6 +143,10 @@ class Session:
         settings, room = (n[0], n[1], n[2:4]), self.rooms[:2]
         if name == "segment":
             r = book.segment(w, settings, book.maybe(n[4:6]), n[6], n[7], *room)
+        elif name == "ask":
+            r = book.ask_segment(w, settings, book.maybe(n[4:6]), n[6], n[7], *room)
+        elif name == "commit":
+            r = book.commit_segment(w, settings, book.maybe(n[4:6]), n[6], n[7], *handed(n))
         elif name == "step":
             r = book.step(w, settings, n[4], book.maybe(n[5:7]), n[7], *room)
         elif name == "walk":
@@ -141,7 +155,7 @@ class Session:
             r = book.evaluate_pending_stops(w, settings, n[8:], book.maybe(n[4:6]), n[6], n[7], room[0])
         else:
             r = book.run_stop_triggers(w, self.path, settings, n[6:], book.maybe(n[4:6]), room[0])
-        line = told(r.number, r.answer, 2 if name in ("segment", "step", "walk") else 3)
+        line = told(r.number, r.answer, 3 if name in ("pass", "run") else 2)
         if name == "run":
             line += self.with_path()
         return line + listed("elected", r.elected) + listed("moved", r.moved)
@@ -161,7 +175,7 @@ class Session:
         elif name == "turns":
             line = self.turned(n)
         else:
-            line = (self.evaluated if name in ("segment", "step", "walk", "pass", "run") else self.altered)(w, name, n)
+            line = (self.evaluated if name in EVALUATE else self.altered)(w, name, n)
         self.buffer[:self.size] = w
         return line + self.shown()
 
@@ -178,7 +192,7 @@ class Session:
             return self.of_path(name, n)
         if name in ("well_formed", "quantity", "find"):
             return self.asked(name, n)
-        if name in ("layout", "clear", "cancel", "admit", "update", "segment", "step", "walk", "pass", "run", "collect", "mass_cancel", "ladder", "turns"):
+        if name in ("layout", "clear", "cancel", "admit", "update", "collect", "mass_cancel", "ladder", "turns", *EVALUATE):
             return self.on_store(name, n)
         return self.of_terms(name, n)
 

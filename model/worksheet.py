@@ -75,7 +75,7 @@ class Sheet:
         self.w, self.path = [0] * book.store_words(ROOM), [0] * 4
         self.records, self.tick, self.in_use = ROOM, 0, False
         self.kill, self.collar, self.namespace, self.trade = 0, None, (0, 0), None
-        self.run, self.script = [], []
+        self.run, self.script, self.asked = [], [], None
         self.panels = 0
         book.layout_store(self.w, self.records, self.tick)
 
@@ -359,11 +359,11 @@ class Sheet:
         self.left()
         self.run = []
 
-    def elected(self, row, number, turn, e, *trigger):
+    def elected(self, row, number, turn, e, *trigger, table="TABLE_ELECTED"):
         self.text(row, turn, e[SIDE], *e[IDENTITY], e[QUANTITY], e[STOP], *e[LIMIT], e[SEQUENCE], *e[CHILD], *trigger)
         if e[PENDING]:
             self.text("CHILD_PENDING")
-        self.table("TABLE_ELECTED", self.line, number, e[TRIGGER], turn, *e[IDENTITY], e[SIDE], e[STOP], e[QUANTITY], e[SEQUENCE], *e[LIMIT], *e[CHILD])
+        self.table(table, self.line, number, e[TRIGGER], turn, *e[IDENTITY], e[SIDE], e[STOP], e[QUANTITY], e[SEQUENCE], *e[LIMIT], *e[CHILD])
 
     def do_child(self, entry):
         if len(self.script) == ROOM:
@@ -394,6 +394,45 @@ class Sheet:
         self.left()
         self.trade = ([last] + [entry[4] for entry in self.script[:used] if entry[0]])[-1]
         self.run, self.script = [], []
+
+    # -----------------------------------------------------------------
+    # Asked and committed. What was asked is kept as its line, the moved and the elected
+
+    def do_ask(self):
+        if not self.has_run():
+            return
+        r = book.ask_segment(self.w, self.settings(), self.trade, self.run[0], self.run[-1], ROOM, 2 * ROOM)
+        assert r.number == 0
+        self.asked = self.line, r.moved, r.elected
+        self.text("ASK", self.line, len(self.run), self.run[0], self.run[-1], len(r.elected), len(r.moved))
+        self.tell_asked("TABLE_ASKED_MOVED", "TABLE_ASKED_ELECTED")
+        self.text("ASKED")
+
+    def tell_asked(self, moved, elected):
+        for m in self.asked[1]:
+            self.text("ASKED_MOVED", *m)
+            self.table(moved, self.line, *m)
+        for turn, e in enumerate(self.asked[2], 1):
+            self.elected("ASKED_ELECTED", 0, turn, e, e[TRIGGER], table=elected)
+
+    def do_commit(self):
+        if not self.has_run():
+            return
+        if not self.asked:
+            self.tell("NOT_ASKED", self.line)
+            return
+        line, moved, elected = self.asked
+        self.text("COMMIT", self.line, line, len(elected), len(moved))
+        self.tell_asked("TABLE_ASKED_MOVED", "TABLE_ASKED_ELECTED")
+        r = book.commit_segment(self.w, self.settings(), self.trade, self.run[0], self.run[-1], elected, moved)
+        if not self.accepted(r.number):
+            return
+        assert r.answer == [len(moved), len(elected)]
+        self.text("COMMITTED", len(elected), len(moved))
+        if self.mode == "table":
+            self.tell_asked("TABLE_COMMITTED_MOVED", "TABLE_ELECTED")
+        self.left()
+        self.trade, self.run, self.asked = self.run[-1], [], None
 
     # -----------------------------------------------------------------
     # Walk and ends side by side

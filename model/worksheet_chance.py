@@ -62,7 +62,7 @@ class Chance:
         r = self.r
         if r.random() < 0.4:
             return self.admission()
-        name = r.choice([*reading.GRAMMAR, "price", "price", "qty", "both", "prints", "prints", "prints", "walk", "walk", "compare", "compare", "child", "child", "pass"])
+        name = r.choice([*reading.GRAMMAR, "price", "price", "qty", "both", "prints", "prints", "prints", "walk", "walk", "compare", "compare", "child", "child", "pass", "ask", "ask", "commit", "commit"])
         if name in ("price", "both"):
             words = [r.choice(NAMES), str(self.price())] + (["5"] if name == "both" else [])
         elif name == "replace":
@@ -70,8 +70,10 @@ class Chance:
         else:
             words = [self.letter(letter) for letter in reading.GRAMMAR[name]]
         line = " ".join([name] + words)
-        if name in ("walk", "ends", "compare", "turns", "pass") and r.random() < 0.8:
+        if name in ("walk", "ends", "compare", "turns", "pass", "ask") and r.random() < 0.8:
             line = f"prints {self.letter('p')}\n{line}"
+        if name == "ask" and r.random() < 0.5:
+            line += "\ncommit"
         return line
 
     def spoilt(self, line):
@@ -112,7 +114,8 @@ def sheets(seed, many):
 
 
 def full():
-    """As many stops as a store takes, and one more; some prints; a walk over the longest run with few stops; a pass that uses the whole script."""
+    """As many stops as a store takes, and one more; some prints; a walk over the longest run with few stops; a pass that uses the whole script; all
+    asked, and committed."""
     most = book.MOST_RECORDS
     stops = "".join(f"{('sell', 'buy')[k % 2]} {k} {(1000 - k, 1000 + k)[k % 2]} 1000 {1 + k % 50} {k + 1} h{k % 5}\n" for k in range(most + 1))
     run = "prints " + " ".join(str(1000 + k * 37 % 61 - 30) for k in range(30)) + "\n"
@@ -121,7 +124,8 @@ def full():
     walked = stops + run + "turns\ncompare\nwalk\ncancel-holder h3\nladder 1 1000 2000\n"
     few = "sell 1 900 1000 100 1\nbuy 2 1900 1000 900 1\nsell 3 1 1000 999 1\n" + long + "turns\ncompare\nwalk\n"
     passed = stops + script + run + "pass\n"
-    return "".join(f"=== {mode} {name}\n{sheet}" for name, sheet in (("walked", walked), ("few", few), ("passed", passed)) for mode in ("text", "table", "picture"))
+    asked = stops + "prints 1000 0\nask\ncancel 7\ncommit\nask\ncommit\n"
+    return "".join(f"=== {mode} {name}\n{sheet}" for name, sheet in (("walked", walked), ("few", few), ("passed", passed), ("asked", asked)) for mode in ("text", "table", "picture"))
 
 
 if __name__ == "__main__":

@@ -11,7 +11,7 @@ CROCKFORD = b"0123456789abcdefghjkmnpqrstvwxyz"
 GRAMMAR = dict(row.split() if " " in row else (row, "") for row in (
     "records n", "tick n", "collar o", "namespace u", "kill b", "last o", "sell innnnH", "buy innnnH", "qty in", "price in", "both inn",
     "replace isnn", "cancel i", "cancel-holder h", "clear", "prints p", "walk", "ends", "compare", "turns", "child c", "pass", "ladder p",
-    "list", "holder h", "totals"))
+    "list", "holder h", "totals", "ask", "commit"))
 
 
 class Unread(Exception):

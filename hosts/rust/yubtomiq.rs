@@ -107,6 +107,28 @@ pub mod library {
             moved_count: usize,
             answer: &mut [u64; 2],
         ) -> u64;
+        pub fn yubtomiq_ask_segment(
+            words: *const u64,
+            count: usize,
+            settings: &[u64; 4],
+            prints: &[u64; 4],
+            elected: *mut ElectedWords,
+            elected_count: usize,
+            moved: *mut MovedWords,
+            moved_count: usize,
+            answer: &mut [u64; 2],
+        ) -> u64;
+        pub fn yubtomiq_commit_segment(
+            words: *mut u64,
+            count: usize,
+            settings: &[u64; 4],
+            prints: &[u64; 4],
+            elected: *const ElectedWords,
+            elected_count: usize,
+            moved: *const MovedWords,
+            moved_count: usize,
+            answer: &mut [u64; 2],
+        ) -> u64;
         pub fn yubtomiq_step(
             words: *mut u64,
             count: usize,
@@ -239,9 +261,10 @@ pub enum Refusal {
     ZeroCollar = 17,
     CollarOffTick = 18,
     TrialPriceCountOutOfRange = 19,
+    ListsDiffer = 20,
 }
 
-const REFUSALS: [Refusal; 19] = [
+const REFUSALS: [Refusal; 20] = [
     Refusal::StoreNotWellFormed,
     Refusal::LayoutOutOfRange,
     Refusal::KillSwitchActive,
@@ -261,6 +284,7 @@ const REFUSALS: [Refusal; 19] = [
     Refusal::ZeroCollar,
     Refusal::CollarOffTick,
     Refusal::TrialPriceCountOutOfRange,
+    Refusal::ListsDiffer,
 ];
 
 impl Refusal {
@@ -626,6 +650,28 @@ impl Elected {
             child_pending: w[13] != 0,
         }
     }
+
+    /// The words of an entry; a child that is no UUID, which no call lists, has none of an entry's: its last word is above 1.
+    fn words(&self) -> ElectedWords {
+        let limit = self.limit.unwrap_or(0);
+        let [kind, high, low] = self.id.words();
+        [
+            kind,
+            high,
+            low,
+            self.side as u64,
+            self.stop,
+            self.quantity,
+            self.seq,
+            self.trigger,
+            self.limit.is_some() as u64,
+            (limit >> 64) as u64,
+            limit as u64,
+            self.child.high,
+            self.child.low,
+            self.child_pending as u64 + 2 * self.child.kind as u64,
+        ]
+    }
 }
 
 /// A stop that a print moved, with its new stop price.
@@ -635,6 +681,17 @@ pub struct Moved {
     pub stop: u64,
 }
 
+impl Moved {
+    fn of(w: &MovedWords) -> Moved {
+        Moved { id: Id::of(w), stop: w[3] }
+    }
+
+    fn words(&self) -> MovedWords {
+        let [kind, high, low] = self.id.words();
+        [kind, high, low, self.stop]
+    }
+}
+
 /// The pending quantity of each side.
 #[derive(Clone, Copy, Debug, PartialEq, Eq)]
 pub struct Totals {
@@ -642,7 +699,7 @@ pub struct Totals {
     pub buy: u128,
 }
 
-/// What a segment or a step did.
+/// What a segment or a step did, or a segment would do.
 #[derive(Clone, Debug, PartialEq, Eq)]
 pub struct Segment {
     pub moved: Vec<Moved>,
@@ -652,10 +709,17 @@ pub struct Segment {
 impl Segment {
     fn of(moved: &[MovedWords], elected: &[ElectedWords]) -> Segment {
         Segment {
-            moved: moved.iter().map(|w| Moved { id: Id::of(w), stop: w[3] }).collect(),
+            moved: moved.iter().map(Moved::of).collect(),
             elected: elected.iter().map(Elected::of).collect(),
         }
     }
+}
+
+/// How many moves and elected an evaluation had.
+#[derive(Clone, Copy, Debug, PartialEq, Eq)]
+pub struct Counts {
+    pub moves: u64,
+    pub elected: u64,
 }
 
 /// What a walk did; moves counts each stop changed, once per price.
@@ -871,6 +935,49 @@ impl Store {
             )
         };
         done(number, answer).map(|[moves, count]| Segment::of(&moved[..moves as usize], &elected[..count as usize]))
+    }
+
+    /// What a segment would do; the store stays.
+    pub fn ask_segment(&self, settings: Settings, prints: Prints) -> Result<Segment, Refusal> {
+        let mut elected = self.list();
+        let mut moved = vec![[0; MOVED_WORDS]; 2 * elected.len()];
+        let mut answer = [0; 2];
+        let number = unsafe {
+            library::yubtomiq_ask_segment(
+                self.words.as_ptr(),
+                self.words.len(),
+                &settings.words(),
+                &prints.words(),
+                elected.as_mut_ptr(),
+                elected.len(),
+                moved.as_mut_ptr(),
+                moved.len(),
+                &mut answer,
+            )
+        };
+        done(number, answer).map(|[moves, count]| Segment::of(&moved[..moves as usize], &elected[..count as usize]))
+    }
+
+    /// Does the segment that was asked, if the store of this moment gives these very lists; else [`Refusal::ListsDiffer`], and nothing is altered. Asking
+    /// and then committing, with no call between, is the segment.
+    pub fn commit_segment(&mut self, settings: Settings, prints: Prints, elected: &[Elected], moved: &[Moved]) -> Result<Counts, Refusal> {
+        let elected: Vec<ElectedWords> = elected.iter().map(Elected::words).collect();
+        let moved: Vec<MovedWords> = moved.iter().map(Moved::words).collect();
+        let mut answer = [0; 2];
+        let number = unsafe {
+            library::yubtomiq_commit_segment(
+                self.words.as_mut_ptr(),
+                self.words.len(),
+                &settings.words(),
+                &prints.words(),
+                elected.as_ptr(),
+                elected.len(),
+                moved.as_ptr(),
+                moved.len(),
+                &mut answer,
+            )
+        };
+        done(number, answer).map(|[moves, elected]| Counts { moves, elected })
     }
 
     /// A step of a walk: a point at one price, arrived from another, of a run that falls as a whole (its last price is its first or below it) or does

@@ -160,6 +160,59 @@ static void lists(void) {
     same("beyond", words[WORDS + 1], 78);
 }
 
+/* Asking and committing: refusals in their order, what they leave, and a commit with lists that differ in one word, in each, or in length. */
+static void asked(void) {
+    uint64_t words[LENT], before[LENT];
+    lay_out(words);
+    memcpy(before, words, sizeof words);
+    const yubtomiq_prints prints = {1, 96, 94, 92};
+    const yubtomiq_settings settings = {0, 3, 0, 0};
+    yubtomiq_elected elected[4], lent;
+    yubtomiq_moved moved[7];
+    yubtomiq_counts counts = {5, 5}, answer = {5, 5};
+    memset(elected, 1, sizeof elected);
+    memset(moved, 1, sizeof moved);
+    lent = elected[0];
+    same("ask, no store", yubtomiq_ask_segment(words, 8, &settings, &prints, elected, 0, moved, 0, &counts), 1);
+    same("ask, elected short", yubtomiq_ask_segment(words, LENT, &settings, &prints, elected, 2, moved, 6, &counts), 14);
+    same("ask, moved short", yubtomiq_ask_segment(words, LENT, &settings, &prints, elected, 3, moved, 5, &counts), 14);
+    same_words("ask, refused: the counts", &counts, &answer, 2);
+    same_words("ask, refused: the elected", elected, &lent, WORDS_OF(yubtomiq_elected));
+    same("ask", yubtomiq_ask_segment(words, LENT, &settings, &prints, elected, 3, moved, 6, &counts), 0);
+    same_words("ask, counts", &counts, &(yubtomiq_counts){2, 1}, 2);
+    same_words("ask, the store stays", words, before, LENT);
+    const yubtomiq_elected first = {2, 0, 1, YUBTOMIQ_SELL, 95, 10, 0, 94, 1, 0, 92, elected[0].child_high, elected[0].child_low, 0};
+    same_words("ask, the elected entry", &elected[0], &first, WORDS_OF(yubtomiq_elected));
+    same_words("ask, the next entry stays", &elected[1], &lent, WORDS_OF(yubtomiq_elected));
+    same_words("ask, the moves", moved, (uint64_t[]){2, 0, 3, 104, 2, 0, 3, 102}, 8);
+    same_words("ask, the next move stays", &moved[2], &lent, 4);
+
+    same("commit, no store", yubtomiq_commit_segment(words, 8, &settings, &prints, elected, 0, moved, 0, &answer), 1);
+    for (size_t k = 0; k < WORDS_OF(yubtomiq_elected); k++) {
+        ((uint64_t *)elected)[k] ^= 1;
+        same("commit, a word of the elected", yubtomiq_commit_segment(words, LENT, &settings, &prints, elected, 1, moved, 2, &answer), 20);
+        ((uint64_t *)elected)[k] ^= 1;
+    }
+    for (size_t k = 0; k < 2 * WORDS_OF(yubtomiq_moved); k++) {
+        ((uint64_t *)moved)[k] ^= 1;
+        same("commit, a word of the moved", yubtomiq_commit_segment(words, LENT, &settings, &prints, elected, 1, moved, 2, &answer), 20);
+        ((uint64_t *)moved)[k] ^= 1;
+    }
+    for (size_t e = 0; e < 4; e++)
+        for (size_t m = 0; m < 7; m++)
+            if (e != 1 || m != 2)
+                same("commit, a length", yubtomiq_commit_segment(words, LENT, &settings, &prints, elected, e, moved, m, &answer), 20);
+    same("commit, kill switch", yubtomiq_commit_segment(words, LENT, &(yubtomiq_settings){1, 3, 0, 0}, &prints, elected, 1, moved, 2, &answer), 20);
+    same_words("commit, refused: the store", words, before, LENT);
+    same_words("commit, refused: the answer", &answer, &(yubtomiq_counts){5, 5}, 2);
+    same("commit", yubtomiq_commit_segment(words, LENT, &settings, &prints, elected, 1, moved, 2, &answer), 0);
+    same_words("commit, counts", &answer, &counts, 2);
+    same("segment, beside", yubtomiq_segment(before, LENT, &settings, &prints, &elected[1], 3, &moved[1], 6, &counts), 0);
+    same_words("commit, the segment's store", words, before, LENT);
+    same_words("commit, the segment's elected", &elected[1], &first, WORDS_OF(yubtomiq_elected));
+    same("commit, twice", yubtomiq_commit_segment(words, LENT, &settings, &prints, elected, 1, moved, 2, &answer), 20);
+}
+
 /* The step: refusals in their order, what it leaves, a tie told both ways, and the steps along runs against their walks. */
 static void steps(void) {
     uint64_t words[LENT], before[LENT];
@@ -519,29 +572,51 @@ static void *worst(void *unused) {
     return NULL;
 }
 
-/* They run on a thread that has no more stack than the header says; what of it was touched is printed. */
-static void stack(void) {
-    static char *lent;
+/* The calls that hold a copy of the store, on a full one that elects all. */
+static void *worst_commit(void *nothing) {
+    (void)nothing;
+    const yubtomiq_prints prints = {0, 0, 20000, 1};
+    yubtomiq_counts counts;
+    fill(full);
+    fill(other);
+    same("ask, all", yubtomiq_ask_segment(full, FULL, &PLAIN, &prints, elected_list, MOST, moved_list, 2 * MOST, &counts), 0);
+    same("ask, all elected", counts.elected, MOST);
+    same_words("ask, the store stays", full, other, FULL);
+    same("commit, one short", yubtomiq_commit_segment(full, FULL, &PLAIN, &prints, elected_list, MOST - 1, moved_list, counts.moves, &counts), 20);
+    same_words("commit, refused: the store stays", full, other, FULL);
+    same("commit, all", yubtomiq_commit_segment(full, FULL, &PLAIN, &prints, elected_list, MOST, moved_list, counts.moves, &counts), 0);
+    same("commit, all elected", counts.elected, MOST);
+    same("segment, beside", yubtomiq_segment(other, FULL, &PLAIN, &prints, elected_list, MOST, moved_list, 2 * MOST, &counts), 0);
+    same_words("commit, the segment's store", full, other, FULL);
+    return NULL;
+}
+
+/* These run on threads that have no more stack than the header says; what of it was touched is printed. */
+static void on_stack(const char *what, void *(*calls)(void *), size_t bytes) {
+    char *lent;
     pthread_attr_t attributes;
     pthread_t thread;
     size_t untouched = 0;
-    if (posix_memalign((void **)&lent, 65536, YUBTOMIQ_STACK_BYTES) != 0)
+    if (posix_memalign((void **)&lent, 65536, bytes) != 0)
         exit(2);
-    memset(lent, 0x5a, YUBTOMIQ_STACK_BYTES);
+    memset(lent, 0x5a, bytes);
     pthread_attr_init(&attributes);
-    same("stack", (uint64_t)pthread_attr_setstack(&attributes, lent, YUBTOMIQ_STACK_BYTES), 0);
-    same("thread", (uint64_t)pthread_create(&thread, &attributes, worst, NULL), 0);
+    same("stack", (uint64_t)pthread_attr_setstack(&attributes, lent, bytes), 0);
+    same("thread", (uint64_t)pthread_create(&thread, &attributes, calls, NULL), 0);
     pthread_join(thread, NULL);
-    while (untouched < YUBTOMIQ_STACK_BYTES && lent[untouched] == 0x5a)
+    while (untouched < bytes && lent[untouched] == 0x5a)
         untouched++;
     same("stack left over", untouched > 0, 1);
-    printf("test.c: %zu of %d bytes of stack touched\n", YUBTOMIQ_STACK_BYTES - untouched, YUBTOMIQ_STACK_BYTES);
+    printf("test.c: %zu of %zu bytes of stack touched by %s\n", bytes - untouched, bytes, what);
+    free(lent);
 }
 
 int main(void) {
     refused_values();
-    stack();
+    on_stack("the other calls", worst, YUBTOMIQ_STACK_BYTES);
+    on_stack("asking and committing", worst_commit, YUBTOMIQ_COMMIT_STACK_BYTES);
     lists();
+    asked();
     steps();
     limit_above_the_top();
     answers();

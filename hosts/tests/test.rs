@@ -308,6 +308,77 @@ fn run_and_ends(c: &mut Checks) {
     }
 }
 
+/// Asked, then committed: alike the segment with nothing between; after a change that does not touch the lists; and refused after one that does, under
+/// another setting, and with any field of an entry, or the length of a list, other than asked.
+fn asked_and_committed(c: &mut Checks) {
+    let whole = store(4, 0, &[sell(95, 100, 5), sell(80, 100, 20), buy(104, 100, 4), sell(97, 99, 3)]);
+    let settings = Settings { kill: false, collar: collar(2).ok(), namespace: Namespace { high: 1, low: 2 } };
+    let run = prints(Some(100), 98, 94);
+    let mut s = whole.clone();
+    let asked = s.ask_segment(settings, run).expect("asking");
+    c.same("asking leaves the store", &s, &whole);
+    let mut done = whole.clone();
+    c.same("asked as done", Ok(&asked), done.segment(settings, run).as_ref());
+    c.same("asked: moved and elected", (asked.moved.len(), asked.elected.len()), (2, 2));
+    let counts = Counts { moves: 2, elected: 2 };
+    c.same("committed", s.commit_segment(settings, run, &asked.elected, &asked.moved), Ok(counts));
+    c.same("as the segment leaves it", &s, &done);
+
+    // a stop that lies aside comes and goes, and the lists stand; one more that is elected, and they do not
+    let mut s = whole.clone();
+    s.cancel_pending_stop(Id::sequential(2)).expect("a stop that is pending");
+    c.same("committed after a cancel beside", s.commit_segment(settings, run, &asked.elected, &asked.moved), Ok(counts));
+    let mut s = whole.clone();
+    s.update_pending_stop(Id::sequential(2), Update::Price(96), None).expect("a stop that is pending");
+    c.refused(s.commit_segment(settings, run, &asked.elected, &asked.moved), Refusal::ListsDiffer);
+
+    let mut s = whole.clone();
+    let e = asked.elected[0];
+    let other = Id { kind: IdKind::Ulid, ..e.child };
+    let mut lists: Vec<(Vec<Elected>, Vec<Moved>)> = [
+        Elected { id: Id::sequential(9), ..e },
+        Elected { side: Side::Buy, ..e },
+        Elected { stop: e.stop + 1, ..e },
+        Elected { quantity: e.quantity + 1, ..e },
+        Elected { seq: e.seq + 1, ..e },
+        Elected { trigger: e.trigger + 1, ..e },
+        Elected { limit: None, ..e },
+        Elected { limit: e.limit.map(|l| l + (1 << 64)), ..e },
+        Elected { child: Id { high: e.child.high ^ 1, ..e.child }, ..e },
+        Elected { child: Id { low: e.child.low ^ 1, ..e.child }, ..e },
+        Elected { child: other, ..e },
+        Elected { child_pending: true, ..e },
+    ]
+    .iter()
+    .map(|first| (vec![*first, asked.elected[1]], asked.moved.clone()))
+    .collect();
+    let m = asked.moved[0];
+    for first in [Moved { id: Id::sequential(9), ..m }, Moved { stop: m.stop + 1, ..m }] {
+        lists.push((asked.elected.clone(), vec![first, asked.moved[1]]));
+    }
+    lists.push((asked.elected[..1].to_vec(), asked.moved.clone()));
+    lists.push(([&asked.elected[..], &[e]].concat(), asked.moved.clone()));
+    lists.push((asked.elected.clone(), asked.moved[1..].to_vec()));
+    lists.push((asked.elected.clone(), [&asked.moved[..], &[m]].concat()));
+    lists.push((vec![asked.elected[1], asked.elected[0]], asked.moved.clone()));
+    lists.push((vec![], vec![]));
+    for (elected, moved) in &lists {
+        c.refused(s.commit_segment(settings, run, elected, moved), Refusal::ListsDiffer);
+    }
+    c.refused(s.commit_segment(Settings { kill: true, ..settings }, run, &asked.elected, &asked.moved), Refusal::ListsDiffer);
+    c.refused(s.commit_segment(Settings { collar: None, ..settings }, run, &asked.elected, &asked.moved), Refusal::ListsDiffer);
+    c.refused(s.commit_segment(settings, prints(Some(100), 98, 93), &asked.elected, &asked.moved), Refusal::ListsDiffer);
+    c.same("refused commits alter nothing", &s, &whole);
+
+    let mut damaged = Store::from_words(vec![1, 2, 3]);
+    c.refused(damaged.ask_segment(settings, run), Refusal::StoreNotWellFormed);
+    c.refused(damaged.commit_segment(settings, run, &[], &[]), Refusal::StoreNotWellFormed);
+    let kill = Settings { kill: true, ..settings };
+    let quiet = s.ask_segment(kill, prints(None, 98, 98)).expect("asking");
+    c.same("under the kill switch", (quiet.moved.len(), quiet.elected.len()), (1, 0));
+    c.same("committed under it", s.commit_segment(kill, prints(None, 98, 98), &[], &quiet.moved), Ok(Counts { moves: 1, elected: 0 }));
+}
+
 /// The steps along runs against the walk over each, on equal stores; and a tie, which a segment of one print elects the other way round.
 fn steps_and_walk(c: &mut Checks) {
     let tied = [sell(100, 100, 5), buy(100, 100, 5)];
@@ -480,6 +551,7 @@ fn main() {
     order_example(&mut c);
     turning_example(&mut c);
     run_and_ends(&mut c);
+    asked_and_committed(&mut c);
     steps_and_walk(&mut c);
     both_ways(&mut c);
     both_runs(&mut c);

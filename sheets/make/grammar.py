@@ -29,12 +29,13 @@ ladder p
 list
 holder h
 totals
+ask
+commit
 '''.splitlines()
 
 def spec():
     out = '''-- The table of commands: a row for each, its keyword and its signature. A command's number is its row, from 1.
-use Prim.Native.Nat.{ℕ}
-use mathlib.Core.List.{List, [], _∷_}
+use Rattle.std.specs.Prelude.{ℕ, List, [], ◌∷◌}
 
 unfoldable pub grammar : List ℕ
 grammar =
@@ -46,18 +47,18 @@ grammar =
 def code():
     text = '\\n'.join(ROWS) + '\\n'
     return f'''// The table of commands, a row for each: its keyword and its signature.
+ghost use Rattle.std.specs.Prelude.{{◌≤◌, length}};
+ghost use Rattle.text_lines.specs.Lines.{{lines_of}};
+ghost use Rattle.sheet_commands.specs.Commands.{{Told, command_from}};
+ghost use Rattle.sheet_commands.specs.Grammar.{{grammar}};
+
 use crate::Read;
 use crate::rows::by_rows;
-ghost use Prim.Native.Nat.{{_≤_}};
-ghost use lib.ListN.{{length}};
-ghost use Rattle·text_lines.specs.Lines.{{linesOf}};
-ghost use Rattle·sheet_commands·specs.specs.Commands.{{Told, commandFrom}};
-ghost use Rattle·sheet_commands·specs.specs.Grammar.{{grammar}};
 
 // The command by the line's first word, which stands between two places.
 pub fn by_grammar(line: &[u8], start: usize, end: usize, values: &mut [u64]) -> Read
-    requires {{ ⌜ (start ≤ end) × (end ≤ length (now line)) ⌝ }}
-    ensures {{ λ r. ⌜ Told (commandFrom (linesOf grammar) 1 (now (line .entry)) start end) (now (values .entry)) (now (values .exit)) r ⌝ }}
+    requires {{ (start ≤ end) × (end ≤ length line.now) }}
+    ensures {{ Told (command_from (lines_of grammar) 1 line.now start end) values.old values.new result }}
 {{
     by_rows(
         b"{text}",

@@ -7,11 +7,11 @@ The first FIRST rows are a group, the quickest to print; the others come in grou
   specs/Rows.antt                      the rows as numbers, each with its text in a comment
   proofs/rows/.., proofs/Examples.antt the proofs of these functions, and the first rows printed
   must-fail/                           row_misspelt, rows_swapped, first_row_always
-Nothing else of the crate depends on the rows. Then: rt fmt; rt check sheet_lines.
+Nothing else of the crate depends on the rows. Then, in crates/sheet_lines: rt fmt; rt check.
 """
 import os,sys,shutil
 HERE=os.path.dirname(os.path.abspath(__file__))
-FIRST,REST=16,128
+FIRST,REST=16,105
 C='sheet_lines'
 def numbers(t): return ' ∷ '.join([str(x) for x in t.encode()]+['[]'])
 def shown_tab(t): return t.replace('\t','\\t')
@@ -34,38 +34,36 @@ def main():
         for r in rs: starts.append(starts[-1]+len(r)+1)
         first,last=firsts[g],firsts[g]+len(rs)-1
         write(f'{top}/src/rows/group{g}.rt',f'''// Rows {first} to {last}: the text of their forms, a line for each, and where each begins.
+ghost use Rattle.std.specs.Prelude.{{◌+◌, ◌≤◌, ◌<◌, ◌≡◌, [], length, get_or}};
+ghost use Rattle.text_buffer.specs.Writing.{{Put}};
+ghost use Rattle.text_forms.specs.Forms.{{form_of}};
+ghost use Rattle.text_parts.specs.Parts.{{joined, starts as Parts·starts}};
+ghost use Rattle.{C}.specs.Rows.{{rows{g}}};
+
 use text_parts::put_part;
-ghost use Prim.Native.Nat.{{_+_, _≤_, _<_}};
-ghost use mathlib.Core.Path.{{_≡_}};
-ghost use mathlib.Core.List.{{[]}};
-ghost use lib.ListN.{{length, getD}};
-ghost use Rattle·text_buffer.specs.Writing.{{Put}};
-ghost use Rattle·text_forms.specs.Forms.{{formOf}};
-ghost use Rattle·text_parts.specs.Parts.{{joined, starts as Parts·starts}};
-ghost use Rattle·{C}·specs.specs.Rows.{{rows{g}}};
 
 const TEXT: [u8; {len(text)}] = *b"{shown(text)}";
 
 const STARTS: [usize; {len(starts)}] = [{', '.join(map(str,starts))}];
 
 fn text() -> [u8; {len(text)}]
-    ensures {{ λ r. ⌜ r ≡ joined rows{g} ⌝ }}
+    ensures {{ result ≡ joined rows{g} }}
 {{
     TEXT
 }}
 
 fn starts() -> [usize; {len(starts)}]
-    ensures {{ λ r. ⌜ r ≡ Parts·starts 0 rows{g} ⌝ }}
+    ensures {{ result ≡ Parts·starts 0 rows{g} }}
 {{
     STARTS
 }}
 
 // Puts what the k-th of these rows makes of values from a place on.
 pub fn put_group(buf: &mut [u8], at: usize, k: usize, values: &[u64]) -> usize
-    requires {{ ⌜ at ≤ length (now buf) ⌝ }}
-    requires {{ ⌜ k < {len(rs)} ⌝ }}
-    ensures {{ λ r. ⌜ Put (now (buf .entry)) at (formOf (getD rows{g} k []) (now (values .entry))) (now (buf .exit)) r ⌝ }}
-    ensures {{ λ r. ⌜ r ≤ at + 1048576 ⌝ }}
+    requires at_in_bounds {{ at ≤ length buf.old }}
+    requires k_bound {{ k < {len(rs)} }}
+    ensures put {{ Put buf.old at (form_of (get_or rows{g} k []) values.now) buf.new result }}
+    ensures upper_bound {{ result ≤ at + 1048576 }}
 {{
     let text = text();
     let starts = starts();
@@ -73,8 +71,7 @@ pub fn put_group(buf: &mut [u8], at: usize, k: usize, values: &[u64]) -> usize
 }}
 ''')
     spec='''-- The rows of the table of printed lines: forms, which get their line feed when they are printed.
-use Prim.Native.Nat.{ℕ}
-use mathlib.Core.List.{List, [], _∷_, _++_}
+use Rattle.std.specs.Prelude.{ℕ, List, [], ◌∷◌, ◌++◌}
 
 '''
     for k,r in enumerate(rows): spec+=f'-- {k}: {shown_tab(r)}\nabbrev pub row{k} : List ℕ\nrow{k} = {numbers(r)}\n\n'
@@ -85,18 +82,16 @@ use mathlib.Core.List.{List, [], _∷_, _++_}
     n=len(groups)
     code='''// A row of the table: its group, and its place there. The first groups are found first.
 '''+''.join(f'mod group{g};\n' for g in range(n))+f'''
-ghost use Prim.Native.Nat.{{_+_, _≤_}};
-ghost use mathlib.Core.List.{{[]}};
-ghost use lib.ListN.{{length, getD}};
-ghost use Rattle·text_buffer.specs.Writing.{{Put}};
-ghost use Rattle·text_forms.specs.Forms.{{formOf}};
-ghost use Rattle·{C}·specs.specs.Rows.{{rows as Rows·rows}};
+ghost use Rattle.std.specs.Prelude.{{◌+◌, ◌≤◌, [], length, get_or}};
+ghost use Rattle.text_buffer.specs.Writing.{{Put}};
+ghost use Rattle.text_forms.specs.Forms.{{form_of}};
+ghost use Rattle.{C}.specs.Rows.{{rows as Rows·rows}};
 
 // Puts what the k-th row makes of values from a place on; nothing where there is no such row.
 pub fn put_row(buf: &mut [u8], at: usize, k: u64, values: &[u64]) -> usize
-    requires {{ ⌜ at ≤ length (now buf) ⌝ }}
-    ensures {{ λ r. ⌜ Put (now (buf .entry)) at (formOf (getD Rows·rows k []) (now (values .entry))) (now (buf .exit)) r ⌝ }}
-    ensures {{ λ r. ⌜ r ≤ at + 1048576 ⌝ }}
+    requires {{ at ≤ length buf.old }}
+    ensures put {{ Put buf.old at (form_of (get_or Rows·rows k []) values.now) buf.new result }}
+    ensures upper_bound {{ result ≤ at + 1048576 }}
 {{
 '''
     for g,rs in enumerate(groups):
@@ -106,98 +101,64 @@ pub fn put_row(buf: &mut [u8], at: usize, k: u64, values: &[u64]) -> usize
     code+='    at\n}\n'
     write(top+'/src/rows.rt',code)
     for g,rs in enumerate(groups):
-        P=f'Rattle·{C}·proofs.proofs.rows.group{g}.'
+        P=f'Rattle.{C}.proofs.rows.group{g}.'
         for f,d,what in (('text','joined','the text is that of the rows'),('starts','starts','the places are those of the rows')):
-            write(f'{top}/proofs/rows/group{g}/{f}/Proof.antt',f'''-- `{C}::rows::group{g}::{f}` meets its contract: {what}.
+            write(f'{top}/proofs/rows/group{g}/{f}/Answers.antt',f'''-- `{C}::rows::group{g}::{f}` meets its contract: {what}.
 use mathlib.Core.Path.{{refl}}
-use Rattle·text_parts.specs.Parts.{{{d}}}
-use Rattle·{C}·specs.specs.Rows.{{rows{g}}}
-use {P}{f}.Statement.{{statement}}
-use {P}{f}.Tie as tie
+use Rattle.text_parts.specs.Parts.{{{d}}}
+use Rattle.{C}.specs.Rows.{{rows{g}}}
+use {P}{f}.Goals as goal
 
-returns : tie.Need-returns
+pub returns : goal.returns
 unfolding rows{g} {d}
 returns c = refl
-
-pub {f}-spec : {{M : Type 1}} → statement M
-{f}-spec = tie.close (tie.spec returns)
 ''')
-        write(f'{top}/proofs/rows/group{g}/put_group/Proof.antt',f'''-- `{C}::rows::group{g}::put_group` meets its contract: a row stands in the text of the rows between its places.
-use Rattle·{C}·specs.specs.Rows.{{rows{g}}}
-use Rattle·text_parts.proofs.Parts.{{rows-begin, rows-line}}
-use borrow.Author.Needs.{{needs}}
-use {P}put_group.Statement.{{statement}}
-use {P}put_group.Tie as tie
+        write(f'{top}/proofs/rows/group{g}/put_group/Answers.antt',f'''-- `{C}::rows::group{g}::put_group` meets its contract: a row stands in the text of the rows between its places.
+use Rattle.{C}.specs.Rows.{{rows{g}}}
+use Rattle.text_parts.proofs.Parts.{{rows_begin, rows_line}}
+use {P}put_group.Goals as goal
 
-text-requires : tie.Need-text-requires
-text-requires c κs = search needs
-
-starts-requires : tie.Need-starts-requires
-starts-requires c κs = search needs
-
-slice-aggregate-put-part : tie.Need-slice-aggregate-put-part
-slice-aggregate-put-part c = search needs
-
-slice-aggregate-put-part-2 : tie.Need-slice-aggregate-put-part-2
-slice-aggregate-put-part-2 c = search needs
-
-put-part-requires : tie.Need-put-part-requires
+pub put_part-requires-clause-begins : goal.put_part-requires-clause-begins
 unfolding rows{g}
-put-part-requires c κs =
-    (search needs,
-    (search needs,
-    rw ({B(4)} .text .ensures, {B(3)} .starts .ensures) (rows-begin rows{g} ({B(7)} .args .k) ({B(7)} .pre .1))))
+put_part-requires-clause-begins c =
+    rw (c.text-text.ensures, c.starts-starts.ensures) (rows_begin rows{g} c.args.k c.requires.k_bound)
 
-same-length : tie.Need-same-length
-same-length c = search needs
-
-returns : tie.Need-returns
+pub returns : goal.returns
 unfolding rows{g}
 returns c =
-    (rw ({B(7)} .text .ensures, {B(6)} .starts .ensures, rows-line rows{g} ({B(10)} .args .k) ({B(10)} .pre .1)) at ({B(2)} .put-part .ensures .0),
-    {B(2)} .put-part .ensures .1)
-
-pub put-group-spec : {{M : Type 1}} → statement M
-put-group-spec =
-    tie.close
-    (tie.spec
-    text-requires
-    starts-requires
-    slice-aggregate-put-part
-    slice-aggregate-put-part-2
-    put-part-requires
-    same-length
-    returns)
+    record {{
+      put = rw (c.text-text.ensures, c.starts-starts.ensures, rows_line rows{g} c.args.k c.requires.k_bound) at c.put_part.ensures.put;
+      upper_bound = c.put_part.ensures.upper_bound;
+    }}
 ''')
-    P=f'Rattle·{C}·proofs.proofs.rows.put_row'
     proof=f'''-- `{C}::rows::put_row` meets its contract: the rows before a group are passed over.
 use mathlib.Core.Path.{{refl}}
 use mathlib.Core.List.{{[]}}
-use Rattle·{C}·specs.specs.Rows.{{{', '.join(f'rows{g}' for g in range(n))}}}
-use Rattle·{C}·proofs.proofs.Table.{{row-here, row-behind, no-row}}
-use borrow.Author.Needs.{{needs}}
+use Rattle.{C}.specs.Rows.{{{', '.join(f'rows{g}' for g in range(n))}}}
+use Rattle.{C}.proofs.Table.{{row_here, row-behind, no_row}}
 use native.Mathlib.Omega.{{arith}}
-use {P}.Statement.{{statement}}
-use {P}.Tie as tie
-
+use Rattle.{C}.proofs.rows.put_row.Goals as goal
 '''
-    names=[]
-    def need(name,body,unfold='',args='c'):
+    def answer(name,unfold,put,bound):
         nonlocal proof
-        names.append(name)
-        proof+=f'{name} : tie.Need-{name}\n'+(f'unfolding {unfold}\n' if unfold else '')+f'{name} {args} = {body}\n\n'
-    def num(base,g): return base+('' if g==0 else f'-{g+1}')
+        proof+=f'''
+pub {name} : goal.{name}
+unfolding {' '.join(f'rows{h}' for h in range(unfold))}
+{name} c =
+    record {{
+      put = {put};
+      upper_bound = {bound};
+    }}
+'''
+    # The test of a group, and that the groups before it are passed over; the last of all stands before no row.
+    def test(g): return ('k' if g==0 else f'k{g}')+f'-lt{len(groups[g])}'
+    def past(g,rest='_'): return [f'row-behind rows{h} {rest if h==g-1 else "_"} _ {len(groups[h])} refl c.if-{test(h)}.false' for h in range(g)]
     for g in range(n):
-        need(num('put-group-requires',g),'search needs',args='c κs')
-        need(num('same-length',g),'search needs')
-        past=[f'row-behind rows{h} _ _ {len(groups[h])} refl ({B(TEST+g-h)} .if{h+1} .left)' for h in range(g)]
-        here=f'row-here rows{g} _ _ ({B(TEST)} .if{g+1} .taken)'
-        call=f'{B(2)} .put-group'+('' if g==0 else str(g+1))
-        need(num('returns',g),f'(rw ({", ".join(past+[here])}) ({call} .ensures .0), {call} .ensures .1)',' '.join(f'rows{h}' for h in range(g+1)))
-    past=[f'row-behind rows{h} {"[]" if h==n-1 else "_"} _ {len(groups[h])} refl ({B(n-1-h)} .if{h+1} .left)' for h in range(n)]
-    need(num('returns',n),f'(no-row _ _ _ _ (rw ({", ".join(past)})), omega arith)',' '.join(f'rows{h}' for h in range(n)))
-    proof+='pub put-row-spec : {M : Type 1} → statement M\nput-row-spec =\n    tie.close\n    (tie.spec\n    '+'\n    '.join(names)+')\n'
-    write(top+'/proofs/rows/put_row/Proof.antt',proof)
+        call='c.put_group'+('' if g==0 else f'-then-{test(g)}')
+        here=past(g)+[f'row_here rows{g} _ _ c.if-{test(g)}.true']
+        answer(f'returns-then-{test(g)}',g+1,f'rw ({", ".join(here)}) {call}.ensures.put',f'{call}.ensures.upper_bound')
+    answer('returns',n,f'no_row _ _ _ _ (rw ({", ".join(past(n,"[]"))}))','omega arith')
+    write(top+'/proofs/rows/put_row/Answers.antt',proof)
 
     examples(top,groups[0])
     def edit(name,comment,file,old,new): write(f'{top}/must-fail/{name}.edit',f'# {comment}\nfile: {file}\nold: {old}\nnew: {new}\n')
@@ -207,14 +168,17 @@ use {P}.Tie as tie
     edit('first_row_always','the first row in the place of any','src/rows.rt','group0::put_group(buf, at, k as usize, values)','group0::put_group(buf, at, 0, values)')
 
 
-# The numbers of the rows. The sentences of refusals and faults stand behind one row each, at their numbers.
+# The numbers of the rows. The sentences of refusals and faults stand behind one row each, at their numbers; a refusal whose
+# sentence stands elsewhere, as it came later, has a name of its own.
 def row_names(top,all_names):
+    refused=all_names.index('REFUSED')
+    behind=lambda i,n: n=='REFUSED_%d'%(i-refused)
     out=["// The rows of the table of printed lines by their names: a row's number is its place, counted from 0. Those that a run prints\n// most come first."]
     for i,n in enumerate(all_names):
-        if n.startswith('REFUSED_') or (n.startswith('FAULT_') and n!='FAULT_1'): continue
+        if behind(i,n) or (n.startswith('FAULT_') and n!='FAULT_1'): continue
         out.append('pub const %s: u64 = %d;'%(('FAULTS',i-1) if n=='FAULT_1' else (n,i)))
     count=lambda p: sum(n.startswith(p) for n in all_names)
-    out.append('// How many sentences stand behind `REFUSED` and `FAULTS`.\npub const MOST_REFUSALS: u64 = %d;\n\npub const MOST_FAULTS: u64 = %d;'%(count('REFUSED_'),count('FAULT_')))
+    out.append('// How many sentences stand behind `REFUSED` and `FAULTS`.\npub const MOST_REFUSALS: u64 = %d;\n\npub const MOST_FAULTS: u64 = %d;'%(sum(behind(i,n) for i,n in enumerate(all_names)),count('FAULT_')))
     write(top+'/src/names.rt','\n\n'.join(out)+'\n')
 # The first rows with values, as the definitions print them.
 UUID=(8040642770064822289,12983034126751327487,'6f9619ff-8b86-d011-b42d-00c04fc964ff')
@@ -227,29 +191,23 @@ def printed(row):
         values+=got[0]; text+=got[1]
     return text,values
 def examples(top,rows):
-    names='lineOf rows0 formFrom pieceOf takes identityOf uuidOf groupOf ulidOf wideOf sideOf priceOf limitOf bytesOf untilZero holderOf decimalOf width digits'
+    names='line_of rows0 form_from piece_of takes identity_of uuid_of group_of ulid_of wide_of side_of price_of limit_of bytes_of until_zero holder_of decimal_of width digits'
     o=f'''-- The first rows printed, as theorems, which the checker computes.
-use mathlib.Core.Path.{{_≡_, refl}}
-use mathlib.Core.List.{{[], _∷_}}
-use Rattle·text_buffer.specs.Digits.{{digits, width, decimalOf}}
-use Rattle·identity_text.specs.Identities.{{groupOf, uuidOf, ulidOf, identityOf}}
-use Rattle·text_pieces.specs.Pieces.{{sideOf, priceOf, limitOf, bytesOf, untilZero, holderOf}}
-use Rattle·text_wide.specs.Wide.{{wideOf}}
-use Rattle·text_letters.specs.Letters.{{takes, pieceOf}}
-use Rattle·text_forms.specs.Forms.{{formFrom}}
-use Rattle·{C}·specs.specs.Rows.{{rows0}}
-use Rattle·{C}·specs.specs.Lines.{{lineOf}}
+use mathlib.Core.Path.{{◌≡◌, refl}}
+use mathlib.Core.List.{{[], ◌∷◌}}
+use Rattle.text_buffer.specs.Digits.{{digits, width, decimal_of}}
+use Rattle.identity_text.specs.Identities.{{group_of, uuid_of, ulid_of, identity_of}}
+use Rattle.text_pieces.specs.Pieces.{{side_of, price_of, limit_of, bytes_of, until_zero, holder_of}}
+use Rattle.text_wide.specs.Wide.{{wide_of}}
+use Rattle.text_letters.specs.Letters.{{takes, piece_of}}
+use Rattle.text_forms.specs.Forms.{{form_from}}
+use Rattle.{C}.specs.Rows.{{rows0}}
+use Rattle.{C}.specs.Lines.{{line_of}}
 '''
     for k,r in enumerate(rows[:4]):
         text,values=printed(r)
-        o+=f'\n-- "{shown_tab(text)}"\nline{k} : lineOf {k} ({" ∷ ".join(map(str,values+["[]"]))}) ≡ {" ∷ ".join([str(x) for x in (text+chr(10)).encode()]+["[]"])}\nunfolding {names}\nline{k} = refl\n'
+        o+=f'\n-- "{shown_tab(text)}"\nline{k} : line_of {k} ({" ∷ ".join(map(str,values+["[]"]))}) ≡ {" ∷ ".join([str(x) for x in (text+chr(10)).encode()]+["[]"])}\nunfolding {names}\nline{k} = refl\n'
     write(top+'/proofs/Examples.antt',o)
-
-
-# How far back the test of a group stands from a return.
-TEST=4
-def B(k): return 'c'+' .before'*k
-
 
 main()
 

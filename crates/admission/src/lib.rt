@@ -1,6 +1,8 @@
 // The calls on a store of pending stops: admission, change, cancel, search, clear and totals, from orderbook-rs's
 // stop_orders.rs. Each goes through its questions in their order and then does one operation; a refused call alters
 // nothing.
+#![tactic(auto)]
+
 ghost use Rattle.std.specs.Prelude.{true, cond, ◌≡◌, ◌-◌, ◌<◌, eqb};
 ghost use Rattle.book.specs.Path.{closed};
 ghost use Rattle.error.specs.Questions.{first_no};

@@ -1,6 +1,6 @@
 -- A run of prices is decided by its turning points: the walk over them leaves the book that the walk over all its prices
 -- leaves, and takes out the same stops in the same order. Only the prices that elect them differ.
-use mathlib.Core.Path.{◌≡◌, refl, sym, ap, ◌∙◌}
+use mathlib.Core.Path.{◌≡◌, refl, sym, ap, subst, ◌∙◌}
 use mathlib.Core.Bool.{Bool, false}
 use mathlib.Core.List.{List, [], ◌∷◌, ◌++◌, map, map-append, map-map, append_assoc, append-nil}
 use borrow.Table.Steps.{cases}
@@ -133,6 +133,10 @@ turning_points-walk kill prev (p ∷ []) b h = agree_refl
 turning_points-walk kill prev (p ∷ q ∷ ps) b h =
     let falls = falls_to p (last_of q ps) in
     let one = point kill (sells_first falls prev p) p b in
-    rw (turns_from_last p q ps p)
+    subst (λ (x : Price). Agree
+    (and_then (point kill (sells_first (falls_to p x) prev p) p b)
+    (walk_from kill (falls_to p x) (last.At p) (turns_from p q ps) (point kill (sells_first (falls_to p x) prev p) p b).book))
+    (walk kill prev (p ∷ q ∷ ps) b))
+    (sym (turns_from_last p q ps p))
     (agree-and_then one
     (turns_agree kill falls (last.At p) p q ps one.book (point-settled kill (sells_first falls prev p) p b h)))

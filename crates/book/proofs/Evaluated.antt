@@ -17,14 +17,17 @@ use Rattle.book.proofs.Questions.{first_no_none}
 use Rattle.book.specs.Valid.{Valid, Fits}
 use Rattle.book.proofs.WellFormed.{IsWord, Stored}
 use Rattle.book.specs.Book.{Book, pending_count}
-use Rattle.book.specs.Calls.{Settings, counts_of, PassCounts, SegmentOutcome, pending_in, segment_questions, segment_call, WalkOutcome, walk_questions, walk_call, pass, PassOutcome, pass_questions, passed, pass_call, RunOutcome, run_over, run_call}
+use Rattle.book.specs.Calls.{Settings, Counts, counts_of, PassCounts, SegmentOutcome, pending_in, segment_questions, segment_call, WalkOutcome, walk_questions, walk_call, pass, PassOutcome, pass_questions, passed, pass_call, RunOutcome, run_over, run_call}
+use Rattle.book.specs.Commit.{commit_questions, commit_call}
 use Rattle.book.specs.Evaluation.{Evaluated, sells_first, segment, walk}
 use Rattle.book.specs.Path.{last_or, segment_of}
 use Rattle.book.specs.StepCall.{stepped, step_questions, step_call}
-use Rattle.book.specs.Store.{stored_book}
+use Rattle.book.specs.Store.{StoreOutcome, stored_book}
 use Rattle.book.specs.Words.{book_of, well_formed}
+use Rattle.book.specs.declared.Elected.{Elected}
 use Rattle.book.specs.declared.LastPrice.{LastPrice}
 use Rattle.book.specs.declared.LastPrice.TheVariants as last
+use Rattle.book.specs.declared.Moved.{Moved}
 use Rattle.book.specs.declared.PrintPath.{PrintPath}
 use Rattle.book.specs.declared.PrintSegment.{PrintSegment}
 
@@ -98,6 +101,16 @@ module _ (s : Settings) (w : List ℕ) (elected : ℕ) where
       (λ o v. Lost (segment s.kill prints (book_of w)).book v.elected w o.words) _ _ _ (λ k. refl)
       (λ e. points_lost s.kill w (segment_points s.kill prints (book_of w)) (segment_prices_fits prints fits)
       (first_no_none (segment_questions w elected moved) e).0)
+
+  pub commit_call_lost : (same : List Elected → List Moved → Bool) (prints : PrintSegment) → SegmentFits prints
+      → (a : Accepted (commit_call same s prints w).answer)
+      → Lost (segment s.kill prints (book_of w)).book a.0.elected w (commit_call same s prints w).words
+  unfolding commit_call commit_questions
+  commit_call_lost same prints fits =
+      decide_accepted (λ (o : StoreOutcome Counts). o.answer)
+      (λ o v. Lost (segment s.kill prints (book_of w)).book v.elected w o.words) _ _ _ (λ k. refl)
+      (λ e. points_lost s.kill w (segment_points s.kill prints (book_of w)) (segment_prices_fits prints fits)
+      (first_no_none (commit_questions same s prints w) e).0)
 
   pub step_call_lost : (falls : Bool) (from : LastPrice) (price : Price) (moved : ℕ) → PriceFits price
       → (a : Accepted (step_call s falls from price w elected moved).answer)

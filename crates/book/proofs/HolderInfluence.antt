@@ -15,13 +15,16 @@ use Rattle.book.proofs.Holderless.{holderless_book, pending_count_holderless}
 use Rattle.book.proofs.HolderlessEvaluation.{holderless_fill, holderless_evaluated, point_holderless, segment_holderless, walk_holderless, elected_entries_holderless, holderless_passed, pass_holderless}
 use Rattle.book.specs.Book.{Book, pending_count}
 use Rattle.book.specs.Calls.{Settings, Counts, elected_entries, counts_of, WalkOutcome, PassOutcome, pending_in, segment_questions, segment_call, walk_questions, walk_call, Passed, pass, pass_questions, passed, pass_call, run_over, run_call}
+use Rattle.book.specs.Commit.{commit_questions, commit_call}
 use Rattle.book.specs.Evaluation.{Evaluated, sells_first, segment, walk}
-use Rattle.book.specs.Holders.{AlikeButHolders, Outcome, segment_outcome, list_outcome, run_outcome, SameButHolders, Uninfluenced}
+use Rattle.book.specs.Holders.{AlikeButHolders, Outcome, segment_outcome, commit_outcome, list_outcome, run_outcome, SameButHolders, Uninfluenced}
 use Rattle.book.specs.Path.{segment_of}
 use Rattle.book.specs.StepCall.{stepped, step_questions, step_call}
 use Rattle.book.specs.Store.{stored_book}
 use Rattle.book.specs.Words.{book_of}
+use Rattle.book.specs.declared.Elected.{Elected}
 use Rattle.book.specs.declared.LastPrice.{LastPrice}
+use Rattle.book.specs.declared.Moved.{Moved}
 use Rattle.book.specs.declared.PrintPath.{PrintPath}
 use Rattle.book.specs.declared.PrintSegment.{PrintSegment}
 
@@ -107,7 +110,7 @@ decide_same show {f} {g} {a} {b} p q e refusal acceptance = rw e (go (first_no q
 
 -- Document 02, One: the holder has no influence on election. For every two well-formed stores that differ in holders
 -- alone, words behind the store among the equal ones, and everything else that is lent or passed the same: segment,
--- step, walk, pass and the run over path and store answer the same, list the same elected and the same moved stops, entry by
+-- commit, step, walk, pass and the run over path and store answer the same, list the same elected and the same moved stops, entry by
 -- entry, leave the same path, and leave stores that again differ in holders alone. A refusal too has the same number.
 module _ (s : Settings) (elected : ℕ) where
   pub segment_call_uninfluenced : (prints : PrintSegment) (moved : ℕ)
@@ -117,6 +120,15 @@ module _ (s : Settings) (elected : ℕ) where
       decide_same segment_outcome (segment_questions w elected moved) (segment_questions v elected moved)
       (rw (f, g, pending_in_alike h)) (λ k. untouched h (refused k) [])
       (evaluation_same h s (λ o. o.moved) (segment s.kill prints) (λ o. refl) (segment_holderless s.kill prints))
+
+  pub commit_call_uninfluenced : (same : List Elected → List Moved → Bool) (prints : PrintSegment)
+      → Uninfluenced (λ w. commit_outcome (commit_call same s prints w))
+  unfolding commit_call commit_questions
+  commit_call_uninfluenced same prints w v f g h =
+      let o = evaluation_same h s (λ o. o.moved) (segment s.kill prints) (λ o. refl) (segment_holderless s.kill prints) in
+      decide_same commit_outcome (commit_questions same s prints w) (commit_questions same s prints v)
+      (rw (f, g, o.elected, o.besides)) (λ k. untouched h (refused k) tt)
+      (record { answers = o.answers; elected = refl; besides = refl; stores = o.stores })
 
   pub step_call_uninfluenced : (falls : Bool) (from : LastPrice) (price : Price) (moved : ℕ)
       → Uninfluenced (λ w. segment_outcome (step_call s falls from price w elected moved))

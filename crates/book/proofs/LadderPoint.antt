@@ -115,7 +115,11 @@ module _ (p : Price) (b : Book) (v : Valid b) (q : Pending) (h : InBook b.slots 
   points-names : (s : Settings) {o : Evaluated} → PointsAt false (p ∷ []) b o
       → names own (elected_entries s o) ≡ elected_at q.entry.terms p
   unfolding elected_entries and_then
-  points-names s (next first p done) = rw append-nil (point-names first s)
+  points-names s (next first p rest) = go rest
+    where
+      go : {o : Evaluated} → PointsAt false [] (point false first p b).book o
+          → names own (elected_entries s (and_then (point false first p b) o)) ≡ elected_at q.entry.terms p
+      go done = rw append-nil (point-names first s)
 
 ------------------------------------------------------------------------
 -- Of every stop that a ladder lists

@@ -3,11 +3,13 @@ pub mod Agreement
 pub mod AlikeOutcomes
 pub mod AlikeStores
 pub mod Answers
+pub mod AskedCommitted
 pub mod BySequence
 pub mod ChainIndices
 pub mod Chains
 pub mod CollectExamples
 pub mod Collected
+pub mod CommitExamples
 pub mod ChangedBook
 pub mod PointCounts
 pub mod Differences
@@ -47,6 +49,7 @@ pub mod VacantIndices
 pub mod VacatedEach
 pub mod PointElected
 pub mod PointRecord
+pub mod SameEntries
 pub mod Slots
 pub mod Sort
 pub mod Soundness
@@ -61,3 +64,4 @@ pub mod TurnsByNeighbours
 pub mod TurnsDecide
 pub mod Validity
 pub mod WellFormed
+pub mod WordsBehind

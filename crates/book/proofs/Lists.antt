@@ -1,16 +1,17 @@
--- Laws of lists: what holds of every element, tests on every element, and equality of lists of numbers.
+-- Laws of lists: what holds of every element, tests on every element, and two lists compared.
 use Prim.Native.Nat.{ℕ, zero, suc, ◌+◌, ◌<◌}
-use mathlib.Core.Path.{◌≡◌, refl, ap₂, ◌∙◌}
+use mathlib.Core.Path.{◌≡◌, refl, ap, ap₂, ◌∙◌}
 use mathlib.Core.Bool.{Bool, true, false, false≢true}
 use mathlib.Core.List.{List, [], ◌∷◌, ◌++◌, map}
 use native.Mathlib.Nat.{add-zero, add-suc, suc-add}
 use native.Mathlib.Omega.{arith}
 use lib.Dec.{eqb}
-use lib.ListN.{length, get_or, set, drop, replicate}
+use lib.ListN.{length, get_or, set, take, drop, replicate}
 use lib.Seq.{sets, get_or-set_other}
 use borrow.Author.Tests.{eqb-true, eq-eqb}
+use borrow.Table.Steps.{cases}
 use Rattle.pricelevel.proofs.Bools.{and_parts}
-use Rattle.book.specs.Lists.{All, every, same_list}
+use Rattle.book.specs.Lists.{All, every, same_by, same_list}
 
 pub all_map : {A : Type 0} {P Q : A → Type 0} (f : (x : A) → P x → Q x) (l : List A) → All P l → All Q l
 all_map f [] h = tt
@@ -25,6 +26,78 @@ pub all-every : {A : Type 0} (p : A → Bool) (l : List A) → All (λ x. p x �
 unfolding every
 all-every p [] h = refl
 all-every p (x ∷ l) h = rw (h.0, all-every p l h.1)
+
+------------------------------------------------------------------------
+-- Two lists compared element by element
+
+module _ {A : Type 0} (same : A → A → Bool) where
+  pub same_by_equal : ((x y : A) → same x y ≡ true → x ≡ y) → (l m : List A) → same_by same l m ≡ true → l ≡ m
+  unfolding same_by
+  same_by_equal exact [] [] e = refl
+  same_by_equal exact [] (y ∷ m) e = absurd (false≢true e)
+  same_by_equal exact (x ∷ l) [] e = absurd (false≢true e)
+  same_by_equal exact (x ∷ l) (y ∷ m) e =
+      let h = and_parts (same x y) (same_by same l m) e in
+      ap₂ (λ (a : A) (b : List A). a ∷ b) (exact x y h.0) (same_by_equal exact l m h.1)
+
+  pub same_by_refl : ((x : A) → same x x ≡ true) → (l : List A) → same_by same l l ≡ true
+  unfolding same_by
+  same_by_refl own [] = refl
+  same_by_refl own (x ∷ l) = rw (own x, same_by_refl own l)
+
+  -- another length, and another element at a place
+  pub same_by_length : (l m : List A) → (length l ≡ length m → ⊥) → same_by same l m ≡ false
+  unfolding same_by
+  same_by_length [] [] h = absurd (h refl)
+  same_by_length [] (y ∷ m) h = refl
+  same_by_length (x ∷ l) [] h = refl
+  same_by_length (x ∷ l) (y ∷ m) h = cases (same x y)
+      (λ e. rw e (same_by_length l m (λ k. h (ap suc k)))) (λ e. rw e)
+
+  pub same_by-place : (l m : List A) (i : ℕ) (d : A) → i < length l → i < length m → same (get_or l i d) (get_or m i d) ≡ false
+      → same_by same l m ≡ false
+  unfolding same_by
+  same_by-place [] m i d h k e = absurd (omega (arith, h))
+  same_by-place (x ∷ l) [] i d h k e = absurd (omega (arith, k))
+  same_by-place (x ∷ l) (y ∷ m) zero d h k e = rw e
+  same_by-place (x ∷ l) (y ∷ m) (suc i) d h k e = cases (same x y)
+      (λ f. rw f (same_by-place l m i d (omega (arith, h)) (omega (arith, k)) e)) (λ f. rw f)
+
+  -- the same at every place
+  pub same_by_places : (l m : List A) (d : A) → length l ≡ length m
+      → ((i : ℕ) → i < length l → same (get_or l i d) (get_or m i d) ≡ true) → same_by same l m ≡ true
+  unfolding same_by
+  same_by_places [] [] d h f = refl
+  same_by_places [] (y ∷ m) d h f = absurd (omega (arith, h))
+  same_by_places (x ∷ l) [] d h f = absurd (omega (arith, h))
+  same_by_places (x ∷ l) (y ∷ m) d h f =
+      rw (f 0 (omega arith), same_by_places l m d (omega (arith, h)) (λ i k. f (suc i) (omega (arith, k))))
+
+  -- more elements than the other list has change nothing, where one of them is left
+  pub same_by_cut : (k : ℕ) (l m : List A) → length m < k → same_by same (take k l) m ≡ same_by same l m
+  unfolding same_by
+  same_by_cut zero l m h = absurd (omega (arith, h))
+  same_by_cut (suc k) [] m h = refl
+  same_by_cut (suc k) (x ∷ l) [] h = refl
+  same_by_cut (suc k) (x ∷ l) (y ∷ m) h = rw (same_by_cut k l m (omega (arith, h)))
+
+-- of images, where a test of these is a test of the elements
+pub same_by_mapped : {A B : Type 0} (same : A → A → Bool) (tests : B → B → Bool) (f g : A → B) (P : A → Type 0)
+    → ((x y : A) → P y → tests (f x) (g y) ≡ same x y)
+    → (l m : List A) → All P m → same_by tests (map f l) (map g m) ≡ same_by same l m
+unfolding same_by
+same_by_mapped same tests f g P h [] [] k = refl
+same_by_mapped same tests f g P h [] (y ∷ m) k = refl
+same_by_mapped same tests f g P h (x ∷ l) [] k = refl
+same_by_mapped same tests f g P h (x ∷ l) (y ∷ m) k = rw (h x y k.0, same_by_mapped same tests f g P h l m k.1)
+
+-- lists of numbers: the same by the numbers
+pub same_list_by : (l m : List ℕ) → same_list l m ≡ same_by eqb l m
+unfolding same_list same_by
+same_list_by [] [] = refl
+same_list_by [] (y ∷ m) = refl
+same_list_by (x ∷ l) [] = refl
+same_list_by (x ∷ l) (y ∷ m) = rw (same_list_by l m)
 
 pub same_list_equal : (l m : List ℕ) → same_list l m ≡ true → l ≡ m
 unfolding same_list

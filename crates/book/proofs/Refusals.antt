@@ -16,15 +16,18 @@ use Rattle.pricelevel.specs.declared.Seq.{Seq}
 use Rattle.stop_terms.specs.declared.StopTerms.{StopTerms}
 use Rattle.book.proofs.Questions.{decide_outcomes}
 use Rattle.book.specs.Book.{Pending}
-use Rattle.book.specs.Calls.{Settings, SegmentOutcome, ListOutcome, WalkOutcome, PassOutcome, RunOutcome, pending_in, segment_call, walk_call, passed, pass_call, run_over, run_call}
+use Rattle.book.specs.Calls.{Settings, Counts, SegmentOutcome, ListOutcome, WalkOutcome, PassOutcome, RunOutcome, pending_in, segment_call, walk_call, passed, pass_call, run_over, run_call}
 use Rattle.book.specs.Collect.{CollectOutcome, collect, mass_cancel}
+use Rattle.book.specs.Commit.{commit_call}
 use Rattle.book.specs.Ladder.{LadderOutcome, ladder}
 use Rattle.error.specs.Questions.{decide}
 use Rattle.book.specs.StepCall.{step_call}
 use Rattle.book.specs.Store.{StoreOutcome, PathOutcome, lay_out, clear, admit, cancel_found, cancel, cancels, change_found, update_found, update, lookup}
 use Rattle.book.specs.TurningPoints.{TurningPointsOutcome, turning_points_call}
 use Rattle.book.specs.Words.{book_of}
+use Rattle.book.specs.declared.Elected.{Elected}
 use Rattle.book.specs.declared.LastPrice.{LastPrice}
+use Rattle.book.specs.declared.Moved.{Moved}
 use Rattle.book.specs.declared.OrderUpdate.{OrderUpdate}
 use Rattle.book.specs.declared.PrintPath.{PrintPath}
 use Rattle.book.specs.declared.PrintSegment.{PrintSegment}
@@ -139,6 +142,13 @@ module _ (s : Settings) (w : List ℕ) (elected : ℕ) where
       decide_refused (λ (o : SegmentOutcome). o.answer)
       (λ o. (o.words ≡ w) × (o.elected ≡ []) × (o.moved ≡ [])) _ _ _ r
       (λ k. (refl, refl, refl)) (λ q. absurd (accepted_refused _ q))
+
+  pub commit_call_refused : (same : List Elected → List Moved → Bool) (prints : PrintSegment)
+      → Refused (commit_call same s prints w).answer → (commit_call same s prints w).words ≡ w
+  unfolding commit_call
+  commit_call_refused same prints r =
+      decide_refused (λ (o : StoreOutcome Counts). o.answer) (λ o. o.words ≡ w) _ _ _ r (λ k. refl)
+      (λ q. absurd (accepted_refused _ q))
 
   pub step_call_refused : (falls : Bool) (from : LastPrice) (price : Price) (moved : ℕ)
       → Refused (step_call s falls from price w elected moved).answer

@@ -1,6 +1,6 @@
 -- The turning points read another way: of a run without its level stretches, the first price, those that lie above or
 -- below both neighbours, and the last.
-use mathlib.Core.Path.{◌≡◌, refl, sym, ap, ◌∙◌}
+use mathlib.Core.Path.{◌≡◌, refl, sym, ap, subst, ◌∙◌}
 use mathlib.Core.Bool.{true, false, cond, false≢true}
 use mathlib.Core.List.{List, [], ◌∷◌, ◌++◌}
 use native.Mathlib.Omega.{arith}
@@ -66,7 +66,10 @@ by_neighbours start before here (q ∷ ps) s =
     cases (eqb here.0 q.0)
     (λ e.
     let same : here ≡ q = λ i. record { 0 = eqb-true here.0 q.0 e i } in
-    rw (e, same, level_no_turn start q) (by_neighbours start before q ps (rw same at s)))
+    let again : eqb q.0 q.0 ≡ true = rw same at e in
+    subst (λ (h : Price). turns_from start h (q ∷ ps) ≡ extremes before (h ∷ uneven h (q ∷ ps)) ++ (last_of h (q ∷ ps) ∷ []))
+    (sym same)
+    (rw (again, level_no_turn start q) (by_neighbours start before q ps (rw same at s))))
     (λ e. rw (e, ← one_side_turns start before here q s) (cases (turns_at start here q)
     (λ f. rw f (ap (λ (l : List Price). here ∷ l) (by_neighbours here here q ps (record { below = refl; above = refl }))))
     (λ f. rw f (by_neighbours start here q ps (one_side_next start here q f (eqb-false here.0 q.0 e))))))

@@ -45,9 +45,9 @@ all-are_words l h = all-every (λ x. ltb x (2 ^ 64)) l
 
 pub record WellFormed (w : List ℕ) : Type 0 where
   pub room : store_length (get_or w 0 0) ≤ length w
-  pub are_words_lem : All IsWord (take (store_length (get_or w 0 0)) w)
+  pub all_are_words : All IsWord (take (store_length (get_or w 0 0)) w)
   pub book_valid : Valid (book_of w)
-  pub laid_out_lem : take (store_length (get_or w 0 0)) w ≡ layout (book_of w)
+  pub is_laid_out : take (store_length (get_or w 0 0)) w ≡ layout (book_of w)
 
 pub well_formed_parts : (w : List ℕ) → well_formed w ≡ true → WellFormed w
 unfolding well_formed
@@ -58,9 +58,9 @@ well_formed_parts w e =
     let book = and_parts (valid (book_of w)) _ words.1 in
     record {
       room = leb-true _ _ room.0;
-      are_words_lem = are_words_all front words.0;
+      all_are_words = are_words_all front words.0;
       book_valid = valid_parts (book_of w) book.0;
-      laid_out_lem = same_list_equal front (layout (book_of w)) book.1;
+      is_laid_out = same_list_equal front (layout (book_of w)) book.1;
     }
 
 pub well_formed_of : (w : List ℕ) → WellFormed w → well_formed w ≡ true
@@ -68,9 +68,9 @@ unfolding well_formed
 well_formed_of w h =
     rw (
       le-leb (store_length (get_or w 0 0)) (length w) h.room,
-      all-are_words (take (store_length (get_or w 0 0)) w) h.are_words,
+      all-are_words (take (store_length (get_or w 0 0)) w) h.all_are_words,
       valid_of (book_of w) h.book_valid,
-      h.laid_out,
+      h.is_laid_out,
       same_list_refl (layout (book_of w)),
     )
 
@@ -82,12 +82,12 @@ module _ (w : List ℕ) (e : well_formed w ≡ true) where
   well_formed-valid = (well_formed_parts w e).book_valid
 
   pub well_formed-layout : w ≡ layout (book_of w) ++ drop (store_length (get_or w 0 0)) w
-  well_formed-layout = rw (← (well_formed_parts w e).laid_out) (sym (take-append-drop (store_length (get_or w 0 0)) w))
+  well_formed-layout = rw (← (well_formed_parts w e).is_laid_out) (sym (take-append-drop (store_length (get_or w 0 0)) w))
 
   well_formed_word : (p : ℕ) → p < store_length (get_or w 0 0) → IsWord (get_or w p 0)
   well_formed_word p h =
       rw get_or-take at (all_get_d IsWord (take (store_length (get_or w 0 0)) w) p 0 (omega arith)
-      (well_formed_parts w e).are_words)
+      (well_formed_parts w e).all_are_words)
 
   record_word_fits : (i k : ℕ) → 1 ≤ i → i ≤ get_or w 0 0 → k < record_length → IsWord (record_word w i k)
   unfolding record_word cell
@@ -168,9 +168,9 @@ layout-well_formed b r v f =
     take_at (layout b) r _ (layout_length b) in
     well_formed_of (layout b ++ r) (record {
       room = rw (layout_count b r, length-append) (omega (arith, layout_length b));
-      are_words_lem = rw (layout_count b r, front) (layout_words b v f);
+      all_are_words = rw (layout_count b r, front) (layout_words b v f);
       book_valid = rw (book_of-layout b r v) v;
-      laid_out_lem = rw (layout_count b r, book_of-layout b r v) front;
+      is_laid_out = rw (layout_count b r, book_of-layout b r v) front;
     })
 
 ------------------------------------------------------------------------

@@ -1,8 +1,9 @@
 -- Stores that differ in holders alone, and calls on which holders have no influence: document 02, One.
-use Rattle.std.specs.Prelude.{ℕ, ◌≤◌, ◌<◌, ◌≡◌, true, List, length, get_or}
+use Rattle.std.specs.Prelude.{ℕ, ◌≤◌, ◌<◌, ◌≡◌, true, List, [], length, get_or}
 use Rattle.error.specs.Answer.{Answer}
 use Rattle.book.specs.Calls.{Counts, PassCounts, SegmentOutcome, ListOutcome, RunOutcome}
 use Rattle.book.specs.Sizes.{record_length, first_holder_word}
+use Rattle.book.specs.Store.{StoreOutcome}
 use Rattle.book.specs.Words.{cell, well_formed}
 use Rattle.book.specs.declared.Elected.{Elected}
 use Rattle.book.specs.declared.Moved.{Moved}
@@ -27,7 +28,7 @@ pub record AlikeButHolders (w v : List ℕ) : Type 0 where
 -- Calls on which holders have no influence
 
 -- what the outcomes of the calls that evaluate share, and what they have besides: a segment and a step the moved list, a
--- walk and a pass nothing, the run its path
+-- walk and a pass nothing, the run its path; a commit writes no list
 pub record Outcome (A X : Type 0) : Type 0 where
   pub answer : Answer A
   pub words : List ℕ
@@ -39,6 +40,9 @@ segment_outcome o = record { answer = o.answer; words = o.words; elected = o.ele
 
 abbrev pub list_outcome : {A : Type 0} → ListOutcome A → Outcome A (Unit {0})
 list_outcome o = record { answer = o.answer; words = o.words; elected = o.elected; besides = tt }
+
+abbrev pub commit_outcome : StoreOutcome Counts → Outcome Counts (Unit {0})
+commit_outcome o = record { answer = o.answer; words = o.words; elected = []; besides = tt }
 
 abbrev pub run_outcome : RunOutcome → Outcome PassCounts PrintPath
 run_outcome o = record { answer = o.answer; words = o.words; elected = o.elected; besides = o.path }

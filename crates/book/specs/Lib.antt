@@ -4,6 +4,7 @@ pub mod BySequence
 pub mod Calls
 pub mod Chains
 pub mod Collect
+pub mod Commit
 pub mod Entries
 pub mod Evaluation
 pub mod Holders

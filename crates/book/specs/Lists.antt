@@ -41,6 +41,13 @@ same_list [] (y ∷ m) = false
 same_list (x ∷ l) [] = false
 same_list (x ∷ l) (y ∷ m) = eqb x y && same_list l m
 
+-- as long, and the same element by element
+unfoldable pub same_by : {A : Type 0} → (A → A → Bool) → List A → List A → Bool
+same_by same [] [] = true
+same_by same [] (y ∷ m) = false
+same_by same (x ∷ l) [] = false
+same_by same (x ∷ l) (y ∷ m) = same x y && same_by same l m
+
 -- put in, and sorted, by a test for earlier: document 01, The store, order of chains
 unfoldable pub insert_by : {A : Type 0} → (A → A → Bool) → A → List A → List A
 insert_by earlier x [] = x ∷ []

@@ -16,6 +16,10 @@ most_records = 545
 abbrev pub store_length : ℕ → ℕ
 store_length n = header_length + record_length * n
 
+-- the words of the largest store
+abbrev pub most_words : ℕ
+most_words = store_length most_records
+
 -- the two links of a record, next by stop and next by watermark; its other words are data
 abbrev pub next_by_stop : ℕ
 next_by_stop = 9

@@ -1,18 +1,22 @@
 // The book of pending stops: the types that its calls lend, take and answer, from orderbook-rs's stop_orders.rs. What
 // the calls mean stands in specs/, and what holds of them in proofs/; no code runs here.
+#![tactic(auto)]
+
 use error::Refusal;
 use pricelevel::{Holder, Id, Price, Quantity, Seq, Side, TwoWords};
 use stop_protection::{Limit, Protection};
 use stop_terms::StopTerms;
-use uuid::Uuid;
+use uuid_v5::Uuid;
 
-// The words of a store: those of its header and of each record, and the most records. A record's links stand at two of
-// its words; the others are data.
+// The words of a store: those of its header and of each record, the most records, and the words of the largest store. A
+// record's links stand at two of its words; the others are data.
 pub const HEADER_WORDS: usize = 9;
 
 pub const RECORD_WORDS: usize = 15;
 
 pub const MOST_RECORDS: usize = 545;
+
+pub const STORE_WORDS: usize = HEADER_WORDS + RECORD_WORDS * MOST_RECORDS;
 
 pub const DATA_WORDS: usize = 13;
 
@@ -50,7 +54,7 @@ pub const LADDER_WORDS: usize = 3;
 pub type LadderWords = [u64; LADDER_WORDS];
 
 // A pending stop: its identity, its terms as they stand, its quantity, its admission sequence and its holder.
-#[derive(Drop)]
+#[derive(Clone, Copy)]
 pub struct StopEntry {
     pub id: Id,
     pub terms: StopTerms,
@@ -61,21 +65,21 @@ pub struct StopEntry {
 
 // The four chains of a store: a side's stops by stop price, in the order of election, and by watermark, in the order of
 // trailing.
-#[derive(Drop)]
+#[derive(Clone, Copy)]
 pub enum Chain {
     ByStop(Side),
     ByWatermark(Side),
 }
 
 // The five chains of a store: those four, and that of the free records.
-#[derive(Drop)]
+#[derive(Clone, Copy)]
 pub enum StoreChain {
     Ordered(Chain),
     Free,
 }
 
 // A change of a pending stop. Its watermark and trail stay.
-#[derive(Drop)]
+#[derive(Clone, Copy)]
 pub enum OrderUpdate {
     UpdateQuantity(Quantity),
     UpdatePrice(Price),
@@ -84,7 +88,7 @@ pub enum OrderUpdate {
 }
 
 // Which pending stops to collect: those of one holder, of one side, or with a stop price from the lowest to the highest.
-#[derive(Drop)]
+#[derive(Clone, Copy)]
 pub enum Selector {
     ByHolder(Holder),
     BySide(Side),
@@ -92,14 +96,14 @@ pub enum Selector {
 }
 
 // A price that may be absent: the last trade, or the price that a sweep arrived from.
-#[derive(Drop)]
+#[derive(Clone, Copy)]
 pub enum LastPrice {
     None,
     At(Price),
 }
 
 // One sweep's prints: the price before it, its first print and its last.
-#[derive(Drop)]
+#[derive(Clone, Copy)]
 pub struct PrintSegment {
     pub prev: LastPrice,
     pub first: Price,
@@ -108,7 +112,7 @@ pub struct PrintSegment {
 
 // The recorder of the current sweep's first print: whether one was recorded and not taken yet, whether a price came
 // before it, that price, and the print.
-#[derive(Drop)]
+#[derive(Clone, Copy)]
 pub struct PrintPath {
     pub open: bool,
     pub has_prev: bool,
@@ -118,7 +122,7 @@ pub struct PrintPath {
 
 // A stop that a print elected: as it was when it left the book, the print, the limit and the identity of its child
 // order, and whether that identity is pending in the book after the evaluation.
-#[derive(Drop)]
+#[derive(Clone, Copy)]
 pub struct Elected {
     pub id: Id,
     pub side: Side,
@@ -132,7 +136,7 @@ pub struct Elected {
 }
 
 // A stop that a print ratcheted, with its new stop price.
-#[derive(Drop)]
+#[derive(Clone, Copy)]
 pub struct Moved {
     pub id: Id,
     pub stop: Price,
@@ -140,7 +144,7 @@ pub struct Moved {
 
 // The settings of an evaluation: the kill switch, under which stops trail and none is elected; the collar, or none; and
 // the namespace of child identities.
-#[derive(Drop)]
+#[derive(Clone, Copy)]
 pub struct Settings {
     pub kill: bool,
     pub protection: Protection,
@@ -151,35 +155,35 @@ pub struct Settings {
 // What calls answer
 
 // What layout_store answers.
-#[derive(Drop)]
+#[derive(Clone, Copy)]
 pub enum LayoutAnswer {
     Ok,
     Err(Refusal),
 }
 
 // What an admission answers: the sequence of the stop, or why it was refused.
-#[derive(Drop)]
+#[derive(Clone, Copy)]
 pub enum AdmissionAnswer {
     Ok(Seq),
     Err(Refusal),
 }
 
 // The answer of an admission, and the print path after it.
-#[derive(Drop)]
+#[derive(Clone, Copy)]
 pub struct Admission {
     pub answer: AdmissionAnswer,
     pub path: PrintPath,
 }
 
 // What a cancel or a change answers: the stop before a cancel, or after a change; or why it was refused.
-#[derive(Drop)]
+#[derive(Clone, Copy)]
 pub enum StopAnswer {
     Ok(StopEntry),
     Err(Refusal),
 }
 
 // What a search for an identity answers: the pending stop, none, or why it was refused.
-#[derive(Drop)]
+#[derive(Clone, Copy)]
 pub enum FindAnswer {
     Found(StopEntry),
     None,
@@ -187,49 +191,49 @@ pub enum FindAnswer {
 }
 
 // What a call that lists stops answers: how many it listed, or why it was refused.
-#[derive(Drop)]
+#[derive(Clone, Copy)]
 pub enum ListAnswer {
     Ok(u64),
     Err(Refusal),
 }
 
 // What clear answers, and the print path after it.
-#[derive(Drop)]
+#[derive(Clone, Copy)]
 pub struct Cleared {
     pub answer: LayoutAnswer,
     pub path: PrintPath,
 }
 
 // The pending quantity of each side.
-#[derive(Drop)]
+#[derive(Clone, Copy)]
 pub struct Totals {
     pub sell: TwoWords,
     pub buy: TwoWords,
 }
 
 // What the pending quantity of each side answers, or why it was refused.
-#[derive(Drop)]
+#[derive(Clone, Copy)]
 pub enum QuantityAnswer {
     Ok(Totals),
     Err(Refusal),
 }
 
 // How many stops were moved, once per point, and how many were elected.
-#[derive(Drop)]
+#[derive(Clone, Copy)]
 pub struct Counts {
     pub moves: u64,
     pub elected: u64,
 }
 
 // What a segment or a walk answers, or why it was refused.
-#[derive(Drop)]
+#[derive(Clone, Copy)]
 pub enum EvaluationAnswer {
     Ok(Counts),
     Err(Refusal),
 }
 
 // How many stops were moved, once per point, how many were elected, and how many script entries were used.
-#[derive(Drop)]
+#[derive(Clone, Copy)]
 pub struct PassCounts {
     pub moves: u64,
     pub elected: u64,
@@ -237,14 +241,14 @@ pub struct PassCounts {
 }
 
 // What a pass answers, or why it was refused.
-#[derive(Drop)]
+#[derive(Clone, Copy)]
 pub enum PassAnswer {
     Ok(PassCounts),
     Err(Refusal),
 }
 
 // The answer of a run, and the print path after it.
-#[derive(Drop)]
+#[derive(Clone, Copy)]
 pub struct StopRun {
     pub answer: PassAnswer,
     pub path: PrintPath,

@@ -1,5 +1,7 @@
 // A run of prices evaluated on two lent stores: by a walk over its turning points, and by a walk over all of its prices.
 // Document 02's claim of request Five, that the turning points of a run decide it, is the promise of one call here.
+#![tactic(auto)]
+
 ghost use Rattle.std.specs.Prelude.{map, ◌≡◌, length};
 ghost use Rattle.book.specs.Answers.{told_counts};
 ghost use Rattle.book.specs.Calls.{written, walk_call};
@@ -41,7 +43,7 @@ fn over_turns(
 }
 
 // What the walk over the turning points answers, and what the walk over the run.
-#[derive(Drop)]
+#[derive(Clone, Copy)]
 pub struct BothRuns {
     pub turns: EvaluationAnswer,
     pub run: EvaluationAnswer,

@@ -1,6 +1,8 @@
 // A run of prices evaluated both ways, on two lent stores: by a segment over its ends, as a sweep's prints are, and by
 // a walk over all of its prices. Document 01's demand 3, that a run that never falls or never rises is decided by its
 // ends, is the promise of one call here.
+#![tactic(auto)]
+
 ghost use Rattle.std.specs.Prelude.{map, ◌≡◌, length};
 ghost use Rattle.both_ways.specs.Alike.{Decided};
 ghost use Rattle.both_ways.specs.Ends.{ends_call, Comparable};
@@ -46,7 +48,7 @@ fn over_ends(
 }
 
 // What the segment over the ends answers, and what the walk.
-#[derive(Drop)]
+#[derive(Clone, Copy)]
 pub struct BothWays {
     pub ends: EvaluationAnswer,
     pub run: EvaluationAnswer,

@@ -1,5 +1,7 @@
 // The form check's walk of a chain: it ascends, holds the records of its side and no other, and ends after as many as
 // there are.
+#![tactic(auto)]
+
 ghost use Rattle.std.specs.Prelude.{◌≡◌, ◌+◌, ◌-◌, ◌≤◌, ◌<◌};
 ghost use Rattle.pricelevel.specs.Side.{side_number};
 ghost use Rattle.book.specs.Words.{slots_at};

@@ -9,7 +9,9 @@
 // Ranks
 
 // The place of a record in a chain's order: by key, and by tie between equal keys.
-#[derive(Drop)]
+#![tactic(auto)]
+
+#[derive(Clone, Copy)]
 pub struct Rank {
     pub key: u64,
     pub tie: u64,

@@ -1,5 +1,7 @@
 // The change of a pending stop, from orderbook-rs's stop_orders.rs: its questions in their order, then one operation; a
 // refused call alters nothing.
+#![tactic(auto)]
+
 ghost use Rattle.std.specs.Prelude.{◌≡◌, ◌-◌};
 ghost use Rattle.book.specs.Book.{Book};
 ghost use Rattle.error.specs.Questions.{first_no};

@@ -1,5 +1,7 @@
 // What an elected entry gets once its stop has left: the protection limit, the child's identity, and whether that
 // identity is pending.
+#![tactic(auto)]
+
 ghost use Rattle.std.specs.Prelude.{cond, List, [], map, ◌≡◌, ℕ, ◌+◌, ◌≤◌, ◌<◌, length, get_or, set};
 ghost use Rattle.std.proofs.lemmas.List.Edits.{sets};
 ghost use Rattle.book.specs.Book.{Book};

@@ -1,5 +1,7 @@
 // Collecting pending stops by a selector, from orderbook-rs's cancels of many orders: the questions in their order, then
 // the list by rising sequence. The store is only read.
+#![tactic(auto)]
+
 ghost use Rattle.std.specs.Prelude.{map, ◌≡◌, ◌≤◌, length};
 ghost use Rattle.book.specs.Answers.{told_list};
 ghost use Rattle.book.specs.Book.{entries, indices, pending_count};

@@ -1,4 +1,6 @@
 // The words of a selector, and of what a call that lists stops answers.
+#![tactic(auto)]
+
 ghost use Rattle.std.specs.Prelude.{◌≡◌};
 ghost use Rattle.book.specs.Answers.{told_list};
 ghost use Rattle.host_words.specs.Answers.{Told, listed_words};

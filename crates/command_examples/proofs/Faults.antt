@@ -1,6 +1,6 @@
 -- Every fault with its column; lines without words; a pasted row, and upper case.
 use mathlib.Core.Path.{◌≡◌, refl}
-use mathlib.Core.List.{List, [], ◌∷◌}
+use mathlib.Core.List.{[], ◌∷◌}
 use Rattle.text_lines.specs.Lines.{lines_of, onto}
 use Rattle.text_words.specs.Words.{word_start, word_end, run, separates, spells, same_text, folded}
 use Rattle.text_numbers.specs.Steps.{values_of}
@@ -11,7 +11,7 @@ use Rattle.sheet_words.specs.Words.{optional_at, either_at, range_at, started_at
 use Rattle.sheet_arguments.specs.Arguments.{argument_at}
 use Rattle.sheet_signatures.specs.Signatures.{arguments_from, ended}
 use Rattle.sheet_commands.specs.Grammar.{grammar}
-use Rattle.sheet_commands.specs.Commands.{Command, command_of, command_from, keyword_of, signature_of}
+use Rattle.sheet_commands.specs.Commands.{command_of, command_from, keyword_of, signature_of}
 
 -- "qty 7"
 missing_word : command_of (113 ∷ 116 ∷ 121 ∷ 32 ∷ 55 ∷ []) ≡ record { kind = 9; fault = 1; column = 6; values = 2 ∷ 0 ∷ 7 ∷ [] }

@@ -1,6 +1,6 @@
 -- A line for every row of the table.
 use mathlib.Core.Path.{◌≡◌, refl}
-use mathlib.Core.List.{List, [], ◌∷◌}
+use mathlib.Core.List.{[], ◌∷◌}
 use Rattle.text_lines.specs.Lines.{lines_of, onto}
 use Rattle.text_words.specs.Words.{word_start, word_end, run, separates, spells, same_text, folded}
 use Rattle.text_numbers.specs.Steps.{values_of}
@@ -11,7 +11,7 @@ use Rattle.sheet_words.specs.Words.{optional_at, either_at, range_at, started_at
 use Rattle.sheet_arguments.specs.Arguments.{argument_at}
 use Rattle.sheet_signatures.specs.Signatures.{arguments_from, ended}
 use Rattle.sheet_commands.specs.Grammar.{grammar}
-use Rattle.sheet_commands.specs.Commands.{Command, command_of, command_from, keyword_of, signature_of}
+use Rattle.sheet_commands.specs.Commands.{command_of, command_from, keyword_of, signature_of}
 
 -- "records 4096"
 row_records : command_of (114 ∷ 101 ∷ 99 ∷ 111 ∷ 114 ∷ 100 ∷ 115 ∷ 32 ∷ 52 ∷ 48 ∷ 57 ∷ 54 ∷ []) ≡ record { kind = 1; fault = 0; column = 0; values = 4096 ∷ [] }
@@ -142,3 +142,13 @@ row_holder = refl
 row_totals : command_of (116 ∷ 111 ∷ 116 ∷ 97 ∷ 108 ∷ 115 ∷ []) ≡ record { kind = 26; fault = 0; column = 0; values = [] }
 unfolding lines_of onto word_start word_end run separates spells same_text folded values_of number_at number_between number_from with_digit count_from identity_at identity_between uuid_at uuid_between patterned spelled_by spelled_from with_character value_of place_in most_of digits uuid_pattern ulid_pattern holder_at holder_or_none holder_between word_at packed optional_at either_at range_at started_at child_at none_text from_text on_text off_text sell_text buy_text argument_at arguments_from ended grammar command_of command_from keyword_of signature_of
 row_totals = refl
+
+-- "ask"
+row_ask : command_of (97 ∷ 115 ∷ 107 ∷ []) ≡ record { kind = 27; fault = 0; column = 0; values = [] }
+unfolding lines_of onto word_start word_end run separates spells same_text folded values_of number_at number_between number_from with_digit count_from identity_at identity_between uuid_at uuid_between patterned spelled_by spelled_from with_character value_of place_in most_of digits uuid_pattern ulid_pattern holder_at holder_or_none holder_between word_at packed optional_at either_at range_at started_at child_at none_text from_text on_text off_text sell_text buy_text argument_at arguments_from ended grammar command_of command_from keyword_of signature_of
+row_ask = refl
+
+-- "commit"
+row_commit : command_of (99 ∷ 111 ∷ 109 ∷ 109 ∷ 105 ∷ 116 ∷ []) ≡ record { kind = 28; fault = 0; column = 0; values = [] }
+unfolding lines_of onto word_start word_end run separates spells same_text folded values_of number_at number_between number_from with_digit count_from identity_at identity_between uuid_at uuid_between patterned spelled_by spelled_from with_character value_of place_in most_of digits uuid_pattern ulid_pattern holder_at holder_or_none holder_between word_at packed optional_at either_at range_at started_at child_at none_text from_text on_text off_text sell_text buy_text argument_at arguments_from ended grammar command_of command_from keyword_of signature_of
+row_commit = refl

@@ -14,6 +14,7 @@ use Rattle.stop_terms.specs.declared.StopTerms.{StopTerms}
 use Rattle.repricing.proofs.Previewed.{draws_itself}
 use Rattle.repricing.specs.Previewed.{previewed_at}
 use Rattle.book.proofs.Accepted.{Accepted, decide_accepted, book-stored}
+use Rattle.book.proofs.AskedCommitted.{given}
 use Rattle.book.proofs.Evaluated.{TradeFits, segment_of_fits}
 use Rattle.book.proofs.Found.{find_held, held-find}
 use Rattle.book.proofs.Lists.{all_map}
@@ -23,15 +24,18 @@ use Rattle.book.proofs.Walks.{Kept, PriceFits, PointsAt, point_points, segment_p
 use Rattle.book.proofs.WellFormed.{IsWord}
 use Rattle.book.specs.Book.{vacant, Book}
 use Rattle.book.specs.Calls.{elected_entries, SegmentOutcome, segment_questions, segment_call, WalkOutcome, walk_questions, walk_call, pending_in, pass, PassOutcome, pass_questions, passed, pass_call, RunOutcome, run_over, run_call}
+use Rattle.book.specs.Commit.{commit_questions, commit_call}
 use Rattle.book.specs.Evaluation.{Evaluated, sells_first, segment_prices, segment, walk}
 use Rattle.book.specs.Lists.{All}
 use Rattle.book.specs.Path.{segment_of}
 use Rattle.book.specs.StepCall.{stepped, step_questions, step_call}
-use Rattle.book.specs.Store.{stored_book, find}
+use Rattle.book.specs.Store.{StoreOutcome, stored_book, find}
 use Rattle.book.specs.Valid.{Valid, Fits}
 use Rattle.book.specs.Words.{book_of, well_formed}
+use Rattle.book.specs.declared.Counts.{Counts}
 use Rattle.book.specs.declared.Elected.{Elected}
 use Rattle.book.specs.declared.LastPrice.{LastPrice}
+use Rattle.book.specs.declared.Moved.{Moved}
 use Rattle.book.specs.declared.PrintPath.{PrintPath}
 use Rattle.book.specs.declared.PrintSegment.{PrintSegment}
 use Rattle.book.specs.declared.Settings.{Settings}
@@ -180,6 +184,19 @@ module _ (s : Settings) (w : List ℕ) (room : ℕ) where
         cases (eqb (pending_in w) 0 || not path.«open»)
         (λ f. rw f (courses_drawn s.kill [] w formed (book_of w) w [] refl (courses_none s.kill (book_of w))))
         (λ f. rw f (passed_drawn (segment_of path trade) (segment_of_fits path trade h k) formed)))
+
+-- And after every commit that is not refused, with the elected entries that the store of that moment gives.
+pub commit_drawn : (same : List Elected → List Moved → Bool) (s : Settings) (prints : PrintSegment) (w : List ℕ)
+    → SegmentFits prints
+    → Accepted (commit_call same s prints w).answer
+    → StopsDrawnRight s.kill (segment_prices prints) w (commit_call same s prints w).words (given s prints w)
+unfolding commit_call commit_questions
+commit_drawn same s prints w fits =
+    decide_accepted (λ (o : StoreOutcome Counts). o.answer)
+    (λ o v. StopsDrawnRight s.kill (segment_prices prints) w o.words (given s prints w)) _ _ _ (λ k. refl)
+    (λ e a. points_drawn s (segment_prices prints) w (segment s.kill prints (book_of w))
+    (first_no_none (commit_questions same s prints w) e).0 (segment_prices_fits prints fits)
+    (segment_points s.kill prints (book_of w)))
 
 -- what these say of the panel that starts from the stop's own terms: the stop is the one that it draws
 module _ (kill : Bool) (prices : List Price) (w : List ℕ) where

@@ -1,5 +1,7 @@
 // The elected stops of a side leave a store. They are the first of its stop chain; one pass takes them out of its
 // watermark chain, then each goes from the head of the stop chain to that of the free chain.
+#![tactic(auto)]
+
 ghost use Rattle.std.specs.Prelude.{List, ◌≡◌, ℕ, length};
 ghost use Rattle.book.specs.Steps.{elected_in, taken_on};
 ghost use Rattle.book.specs.Book.{Book};

@@ -1,4 +1,6 @@
 // The records that the words of a list's entries stand for, read from their words: an elected stop and a moved one.
+#![tactic(auto)]
+
 ghost use Rattle.std.specs.Prelude.{◌<◌, [], ◌≡◌, length, get_or};
 ghost use Rattle.entry_records.specs.Records.{limit_from, elected_of, moved_of};
 

@@ -7,7 +7,7 @@ use lib.ListN.{get_or}
 use Rattle.error.specs.Refusal.{refusal_number}
 use Rattle.error.specs.Verdict.{told_verdict}
 use Rattle.error.specs.declared.Refusal.{Refusal}
-use Rattle.error.specs.declared.Refusal.TheVariants.{StoreNotWellFormed, LayoutOutOfRange, KillSwitchActive, ZeroQuantity, ZeroTrail, StopBeyondWatermark, StopWouldTrigger, DuplicateOrderId, TrailOffTick, NoFreeRecord, SequenceExhausted, OrderNotFound, SamePrice, ListTooShort, InvalidScript, PriceCountOutOfRange, ZeroCollar, CollarOffTick, TrialPriceCountOutOfRange}
+use Rattle.error.specs.declared.Refusal.TheVariants.{StoreNotWellFormed, LayoutOutOfRange, KillSwitchActive, ZeroQuantity, ZeroTrail, StopBeyondWatermark, StopWouldTrigger, DuplicateOrderId, TrailOffTick, NoFreeRecord, SequenceExhausted, OrderNotFound, SamePrice, ListTooShort, InvalidScript, PriceCountOutOfRange, ZeroCollar, CollarOffTick, TrialPriceCountOutOfRange, ListsDiffer}
 use Rattle.error.specs.declared.Verdict.{Verdict}
 use Rattle.error.specs.declared.Verdict.TheVariants.{Accepted, Refused}
 
@@ -17,7 +17,7 @@ all =
     ∷ StopWouldTrigger
     ∷ DuplicateOrderId ∷ TrailOffTick ∷ NoFreeRecord ∷ SequenceExhausted ∷ OrderNotFound ∷ SamePrice ∷ ListTooShort
     ∷ InvalidScript
-    ∷ PriceCountOutOfRange ∷ ZeroCollar ∷ CollarOffTick ∷ TrialPriceCountOutOfRange ∷ []
+    ∷ PriceCountOutOfRange ∷ ZeroCollar ∷ CollarOffTick ∷ TrialPriceCountOutOfRange ∷ ListsDiffer ∷ []
 
 pub numbered : ℕ → Refusal
 numbered k = get_or all (k - 1) StoreNotWellFormed
@@ -43,6 +43,7 @@ numbered-number PriceCountOutOfRange = refl
 numbered-number ZeroCollar = refl
 numbered-number CollarOffTick = refl
 numbered-number TrialPriceCountOutOfRange = refl
+numbered-number ListsDiffer = refl
 
 pub refusal_number_injective : (d e : Refusal) → refusal_number d ≡ refusal_number e → d ≡ e
 refusal_number_injective d e h = sym (numbered-number d) ∙ ap numbered h ∙ numbered-number e

@@ -1,9 +1,9 @@
 -- The number of each refusal.
 use Rattle.std.specs.Prelude.{ℕ}
 use Rattle.error.specs.declared.Refusal.{Refusal}
-use Rattle.error.specs.declared.Refusal.TheVariants.{StoreNotWellFormed, LayoutOutOfRange, KillSwitchActive, ZeroQuantity, ZeroTrail, StopBeyondWatermark, StopWouldTrigger, DuplicateOrderId, TrailOffTick, NoFreeRecord, SequenceExhausted, OrderNotFound, SamePrice, ListTooShort, InvalidScript, PriceCountOutOfRange, ZeroCollar, CollarOffTick, TrialPriceCountOutOfRange}
+use Rattle.error.specs.declared.Refusal.TheVariants.{StoreNotWellFormed, LayoutOutOfRange, KillSwitchActive, ZeroQuantity, ZeroTrail, StopBeyondWatermark, StopWouldTrigger, DuplicateOrderId, TrailOffTick, NoFreeRecord, SequenceExhausted, OrderNotFound, SamePrice, ListTooShort, InvalidScript, PriceCountOutOfRange, ZeroCollar, CollarOffTick, TrialPriceCountOutOfRange, ListsDiffer}
 
--- document 01, The questions a call goes through; 19: document 02, Three
+-- document 01, The questions a call goes through; 19 and 20: document 02, Three and Six
 abbrev pub refusal_number : Refusal → ℕ
 refusal_number StoreNotWellFormed = 1
 refusal_number LayoutOutOfRange = 2
@@ -24,3 +24,4 @@ refusal_number PriceCountOutOfRange = 16
 refusal_number ZeroCollar = 17
 refusal_number CollarOffTick = 18
 refusal_number TrialPriceCountOutOfRange = 19
+refusal_number ListsDiffer = 20

@@ -1,11 +1,13 @@
 // The refusals of document 01, "The questions a call goes through", and of the requests of document 02. They stand for
 // the Rust's OrderBookError; where that has one error for several questions, each question has its own refusal here.
+#![tactic(auto)]
+
 ghost use Rattle.std.specs.Prelude.{◌≡◌};
 ghost use Rattle.error.specs.Questions.{question, asked};
 ghost use Rattle.error.specs.Refusal.{refusal_number};
 ghost use Rattle.error.specs.Verdict.{told_verdict};
 
-#[derive(Drop)]
+#[derive(Clone, Copy)]
 pub enum Refusal {
     StoreNotWellFormed,
     LayoutOutOfRange,
@@ -26,6 +28,7 @@ pub enum Refusal {
     ZeroCollar,
     CollarOffTick,
     TrialPriceCountOutOfRange,
+    ListsDiffer,
 }
 
 impl Refusal {
@@ -53,12 +56,13 @@ impl Refusal {
             Refusal::ZeroCollar => 17,
             Refusal::CollarOffTick => 18,
             Refusal::TrialPriceCountOutOfRange => 19,
+            Refusal::ListsDiffer => 20,
         }
     }
 }
 
 // What the questions of a call come to: all are answered yes, or one is the first that is answered no.
-#[derive(Drop)]
+#[derive(Clone, Copy)]
 pub enum Verdict {
     Accepted,
     Refused(Refusal),

@@ -1,5 +1,7 @@
 // The pass over a store of pending stops, from orderbook-rs's stop_orders.rs: its questions in their order, then the
 // segments of its queue. A refused call alters nothing.
+#![tactic(auto)]
+
 ghost use Rattle.std.specs.Prelude.{map, ◌≡◌, length};
 ghost use Rattle.std.proofs.Math.Option.{none};
 ghost use Rattle.book.specs.Calls.{written, pass_questions, passed, pass_call};

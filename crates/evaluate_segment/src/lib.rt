@@ -1,5 +1,7 @@
 // The segment over a store of pending stops, from orderbook-rs's stop_orders.rs: its questions in their order, then a
 // point at each end. A refused call alters nothing.
+#![tactic(auto)]
+
 ghost use Rattle.std.specs.Prelude.{map, ◌≡◌, length};
 ghost use Rattle.book.specs.Calls.{written, segment_questions, segment_call};
 ghost use Rattle.error.specs.Questions.{first_no};

@@ -1,5 +1,7 @@
 // The step over a store of pending stops: its questions in their order, then a point at one price of a run, told where
 // the run comes from and whether it falls as a whole. A refused call alters nothing.
+#![tactic(auto)]
+
 ghost use Rattle.std.specs.Prelude.{map, ◌≡◌, length};
 ghost use Rattle.book.specs.Calls.{written};
 ghost use Rattle.book.specs.StepCall.{step_questions, step_call};

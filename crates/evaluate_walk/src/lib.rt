@@ -1,5 +1,7 @@
 // The walk over a store of pending stops, print by print: its questions in their order, then a point at each price. A
 // refused call alters nothing.
+#![tactic(auto)]
+
 ghost use Rattle.std.specs.Prelude.{map, ◌≡◌, length};
 ghost use Rattle.book.specs.Calls.{written, walk_questions, walk_call};
 ghost use Rattle.error.specs.Questions.{first_no};

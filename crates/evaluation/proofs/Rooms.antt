@@ -8,7 +8,8 @@ use mathlib.Core.Option.{none}
 use borrow.Author.Tests.{le-leb, lt-leb, leb-true, leb-false}
 use borrow.Table.Steps.{cases}
 use lib.Dec.{leb, eqb}
-use lib.ListN.{length, length-map}
+use lib.ListN.{length, take, drop, length-map}
+use lib.Seq.{take_at}
 use Rattle.pricelevel.specs.declared.IdKind.TheVariants.{Uuid}
 use Rattle.pricelevel.specs.declared.Price.{Price}
 use Rattle.stop_trigger.specs.Child.{child_id, id_of}
@@ -19,7 +20,7 @@ use Rattle.book.specs.Lists.{All}
 use Rattle.book.proofs.Passes.{pass_from_induction, pass_count_lem}
 use Rattle.book.proofs.Questions.{decide_outcomes}
 use Rattle.book.specs.Book.{Book, pending_count}
-use Rattle.book.specs.Calls.{elected_entry, elected_entries, counts_of, pending_in, segment_questions, SegmentOutcome, segment_call}
+use Rattle.book.specs.Calls.{elected_entry, elected_entries, written, counts_of, pending_in, segment_questions, SegmentOutcome, segment_call}
 use Rattle.book.specs.Calls.{WalkOutcome, walk_questions, walk_call, pass, PassOutcome, pass_questions, passed, pass_call, RunOutcome, run_over, run_call}
 use Rattle.book.specs.Evaluation.{Fill, Evaluated, sells_first, segment}
 use Rattle.book.specs.StepCall.{step_questions, step_call}
@@ -77,6 +78,12 @@ pub record Listed {A : Type 0} (count : ℕ) (entries : List A) (room : ℕ) : T
 abbrev pub ListsElected : ℕ → List Elected → ℕ → Type 0
 ListsElected count entries room = Listed count entries room × All UuidChild entries
 
+-- the entries that a call wrote are the first of the list, as many as it wrote
+pub written_taken : {A : Type 0} (entries lent : List A) (n : ℕ) → n ≡ length entries
+    → take n (written entries lent) ≡ entries
+unfolding written
+written_taken entries lent n e = take_at entries (drop (length entries) lent) n (sym e)
+
 nothing_listed : (room : ℕ) → ListsElected 0 [] room
 nothing_listed room = (record { counted = refl; few = zero-le }, tt)
 
@@ -100,6 +107,17 @@ cut_leb : (p room cap : ℕ) → p ≤ cap → leb p (min room cap) ≡ leb p ro
 cut_leb p room cap few = cases (leb p room)
     (λ h. le-leb p (min room cap) (omega (arith, leb-true p room h, few)) ∙ sym h)
     (λ h. lt-leb p (min room cap) (omega (arith, leb-false p room h)) ∙ sym h)
+
+-- what a segment lists of a well-formed store, whatever the room
+pub segment_most : (s : Settings) (prints : PrintSegment) (w : List ℕ) → well_formed w ≡ true
+    → (length (elected_entries s (segment s.kill prints (book_of w))) ≤ most_records)
+    × (All UuidChild (elected_entries s (segment s.kill prints (book_of w))))
+    × (length (segment s.kill prints (book_of w)).moved ≤ 2 * most_records)
+unfolding pending_in
+segment_most s prints w formed =
+    let few = pending_few w formed in
+    let listed = evaluation_lists s most_records (segment_points s.kill prints (book_of w)) few in
+    (listed.0.few, listed.1, omega (arith, segment-moves s.kill prints (book_of w), few))
 
 ------------------------------------------------------------------------
 -- Walk

@@ -1,4 +1,6 @@
 // The words of an evaluation: its settings, and what a segment, a walk or a pass answers.
+#![tactic(auto)]
+
 ghost use Rattle.std.specs.Prelude.{◌≡◌};
 ghost use Rattle.host_words.specs.Arguments.{protection_of, settings_of};
 ghost use Rattle.book.specs.Answers.{told_counts, told_pass};
@@ -6,7 +8,7 @@ ghost use Rattle.host_words.specs.Answers.{Told, counts_words, pass_words};
 
 use book::{EvaluationAnswer, PassAnswer, Settings};
 use stop_protection::{NewProtection, Protection, StopProtection};
-use uuid::Uuid;
+use uuid_v5::Uuid;
 
 // ---------------------------------------------------------------------
 // Admission, change and settings

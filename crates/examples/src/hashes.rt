@@ -1,13 +1,13 @@
 // SHA-1 digests of FIPS 180-4's examples, version 5 UUIDs, and identities of child orders.
 use crate::print;
 use pricelevel::{Id, IdKind};
-use uuid::Uuid;
+use uuid_v5::Uuid;
 
 fn digest(what: &[u8], message: &[u8]) {
     print::text(b"sha1 ");
     print::text(what);
     print::text(b":");
-    print::octets(&sha1::digest(message));
+    print::octets(&sha1_hash::digest(message));
     print::text(b"\n");
 }
 

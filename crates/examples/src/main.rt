@@ -1,5 +1,7 @@
 // Runs the examples of document 01 and the published vectors, a line each: what is asked, a colon, and the answer. The
 // file stdout holds the answers as document 01 and the named sources give them.
+#![tactic(auto)]
+
 mod hashes;
 mod print;
 mod protection;

@@ -1,7 +1,9 @@
 // FIPS 180-4's SHA-1 as definitions, and the state that its steps hand on.
 
 // The five words of a hash value, or the five working variables.
-#[derive(Drop)]
+#![tactic(auto)]
+
+#[derive(Clone, Copy)]
 pub struct State {
     pub a: u32,
     pub b: u32,

@@ -97,13 +97,13 @@ fn encode(bytes: &mut [u8], text: &[u8]) -> usize
 }
 
 // The forecast of the bytes that a text stands for.
-fn input(text: &[u8]) {
+fn input(rt: &HostRuntime, text: &[u8]) -> std::io::Result<()> {
     let mut room = io::large_buffer();
     let bytes: &mut [u8] = &mut room;
     let n = encode(bytes, text);
     let all = &bytes[..];
-    files::write(&all[0..n]);
-    files::forecast();
+    files::write(rt, &all[0..n])?;
+    files::forecast(rt)
 }
 
 // The number that a text ends with.
@@ -118,25 +118,26 @@ fn last_number(text: &[u8]) -> u64 {
 }
 
 // A line by its first byte.
-fn starting(c: u8, text: &[u8]) {
+fn starting(rt: &HostRuntime, c: u8, text: &[u8]) -> std::io::Result<()> {
     match c {
         b'#' => {
             io::write_all(1, text);
             io::write_all(1, b"\n");
+            Ok(())
         }
         b'l' => {
-            files::set_length(last_number(text));
-            files::forecast();
+            files::set_length(rt, last_number(text))?;
+            files::forecast(rt)
         }
-        _ => input(text),
+        _ => input(rt, text),
     }
 }
 
-fn line(text: &[u8]) {
+fn line(rt: &HostRuntime, text: &[u8]) -> std::io::Result<()> {
     if text.len() == 0 {
-        input(text);
+        input(rt, text)
     } else {
-        starting(text[0], text);
+        starting(rt, text[0], text)
     }
 }
 
@@ -156,11 +157,12 @@ fn line_end(text: &[u8], from: usize) -> usize
 }
 
 // Each line in turn.
-pub fn lines(text: &[u8]) {
+pub fn lines(rt: &HostRuntime, text: &[u8]) -> std::io::Result<()> {
     let mut at: usize = 0;
     while at < text.len() {
         let end = line_end(text, at);
-        line(&text[at..end]);
+        line(rt, &text[at..end])?;
         at = end + 1;
     }
+    Ok(())
 }

@@ -1,15 +1,16 @@
 // The input of the program `forecast`: a store, a price count and the prices as bytes, the lowest first. What bytes
 // name is decided here, and how many of them decide: bytes that are no words name an empty store, and prices that are
 // not as many as their count name none.
-ghost use Rattle.std.specs.Prelude.{◌≡◌, List, ℕ, ◌+◌, ◌*◌, ◌≤◌, ◌<◌, ◌^◌, min, length, take};
+#![tactic(auto)]
+
+ghost use Rattle.std.specs.Prelude.{◌≡◌, List, ℕ, ◌+◌, ◌*◌, ◌≤◌, ◌<◌, ◌^◌, length, take};
 ghost use Rattle.forecast_input.specs.Input.{four_at, word_at, words_at, word_count, words_of, store_in, prices_in, SameInput, room_bytes};
 
+pub use book::STORE_WORDS;
 use book::{HEADER_WORDS, MOST_PRICES, MOST_RECORDS, RECORD_WORDS};
+use copying::least;
 
-// The words of the longest store, and the bytes of the longest input that is accepted: that store, a count, and the
-// most prices.
-pub const STORE_WORDS: usize = HEADER_WORDS + RECORD_WORDS * MOST_RECORDS;
-
+// The bytes of the longest input that is accepted: the longest store, a count, and the most prices.
 const LONGEST_BYTES: usize = 8 * (STORE_WORDS + 1 + MOST_PRICES);
 
 // Two words more.
@@ -54,12 +55,6 @@ pub fn read_words(bytes: &[u8], i: usize, words: &mut [u64])
         words[k] = word_at(bytes, i + k);
         k += 1;
     }
-}
-
-fn least(a: usize, b: usize) -> usize
-    ensures { result ≡ min a b }
-{
-    if a < b { a } else { b }
 }
 
 // How many words the bytes are: none where they are no multiple of 8.

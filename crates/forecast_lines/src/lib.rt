@@ -1,4 +1,6 @@
 // The program `forecast` as a function: an input read to its end, and its forecast written to standard output.
+#![tactic(auto)]
+
 mod print;
 mod reading;
 

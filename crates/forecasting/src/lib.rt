@@ -1,6 +1,8 @@
 // The forecast of document 01: what a walk elects, from a store, a price count and the prices as bytes. Every refusal is
 // the walk's own, which is lent no words where the bytes are no words, and no prices where these are not as many as
 // their count.
+#![tactic(auto)]
+
 ghost use Rattle.std.specs.Prelude.{◌≡◌, map, length};
 ghost use Rattle.book.specs.Calls.{written};
 ghost use Rattle.book.specs.Sizes.{most_records, store_length, most_prices};
@@ -8,11 +10,11 @@ ghost use Rattle.book.specs.Answers.{told_counts};
 ghost use Rattle.book.specs.Entries.{elected_words};
 ghost use Rattle.forecast_input.specs.Input.{words_of, store_in, prices_in, forecast_settings, forecast_of};
 
-use book::{ElectedWords, EvaluationAnswer, LastPrice, MOST_PRICES, Settings};
+use book::{ElectedWords, EvaluationAnswer, LastPrice, MOST_PRICES, STORE_WORDS, Settings};
 use evaluate_walk::walk;
-use forecast_input::{STORE_WORDS, price_count, read_words, store_length, word_count};
+use forecast_input::{price_count, read_words, store_length, word_count};
 use stop_protection::Protection;
-use uuid::Uuid;
+use uuid_v5::Uuid;
 
 // The settings of a forecast: kill switch off, no collar, namespace zero.
 fn settings() -> Settings

@@ -1,6 +1,8 @@
 // The form check of the store: whether lent words are those of a valid book. Each record is looked at by itself, and
 // each chain is walked for as many steps as it should have records, so that the check ends on any words. Stops are told
 // apart by buckets of their keys, in two local tables, the only memory of its own.
+#![tactic(auto)]
+
 ghost use Rattle.std.specs.Prelude.{◌≡◌, ◌+◌, ◌-◌, ◌<◌};
 ghost use Rattle.book.specs.Words.{well_formed};
 

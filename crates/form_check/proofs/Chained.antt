@@ -91,14 +91,14 @@ module _ (w : List ℕ) (n : ℕ) (differ : all_differ (slots_at w 1 n) ≡ true
       let ss = slots_at w 1 n in
       let l = ordered c ss in
       let members = ordered_members c ss in
-      let by-words =
+      let by_words =
       ascending_alike (rank_in c ss)
       (rank_at c w) l (all_map {Q = λ j. rank_in c ss j ≡ rank_at c w j}
       (λ j m. sym (member-rank w n c j m)) l members)
       (ordered_ascending c ss differ fits) in
       rw (ordered_length c ss)
       (linked-formed (Ordered c) w n l (head_of c) 0 h (all_map (member_group w n c) l members)
-      (ascending-steps c w 0 l (λ u. absurd (omega arith)) by-words))
+      (ascending-steps c w 0 l (λ u. absurd (omega arith)) by_words))
 
 ------------------------------------------------------------------------
 -- The free chain

@@ -196,8 +196,8 @@ module _ (w : List ℕ) (words : (p : ℕ) → IsWord (get_or w p 0)) where
       free_vacant = free.all_vacant;
     }
 
-    laid_out_lem : take (store_length (get_or w 0 0)) w ≡ layout (book_of w)
-    laid_out_lem =
+    is_laid_out : take (store_length (get_or w 0 0)) w ≡ layout (book_of w)
+    is_laid_out =
         let size = book_of_slots_length w in
         rw size at
         (layout_taken w (book_of w)
@@ -208,11 +208,11 @@ module _ (w : List ℕ) (words : (p : ℕ) → IsWord (get_or w p 0)) where
     formed-well_formed : WellFormed w
     formed-well_formed = record {
       room = f.room;
-      are_words_lem = get_d_all IsWord (take (store_length (get_or w 0 0)) w) 0
+      all_are_words = get_d_all IsWord (take (store_length (get_or w 0 0)) w) 0
           (λ i h. let l : i < store_length (get_or w 0 0) = rw
           (length-take-le (store_length (get_or w 0 0)) w f.room) at h in rw get_or-take (words i));
       book_valid = book_valid;
-      laid_out_lem = laid_out_lem;
+      is_laid_out = is_laid_out;
     }
 
   ------------------------------------------------------------------------

@@ -1,4 +1,6 @@
 // Admission for hosts: every argument as words. `yubtomiq` says what it does.
+#![tactic(auto)]
+
 ghost use Rattle.std.specs.Prelude.{◌≡◌};
 ghost use Rattle.book.specs.Answers.{told_admission};
 ghost use Rattle.host_words.specs.Answers.{Told, seq_words};

@@ -1,4 +1,6 @@
 // Limits, collars and child identities for hosts: every argument as words. `yubtomiq` says what each call does.
+#![tactic(auto)]
+
 ghost use Rattle.std.specs.Prelude.{◌≡◌};
 ghost use Rattle.stop_protection.specs.Collar.{try_new, limit_words};
 ghost use Rattle.host_words.specs.Answers.{Told, number, id_words};
@@ -9,7 +11,7 @@ use host_words::UNKNOWN;
 use pricelevel::Price;
 use stop_protection::{NewProtection, StopProtection, TickCheck};
 use term_words::{id_known, id_of, id_words, side_known};
-use uuid::Uuid;
+use uuid_v5::Uuid;
 
 pub fn limit_price(collar: u64, side: u64, stop_price: u64, answer: &mut [u64; 3]) -> u64
     ensures { Told limit_words (limit_by_words collar side stop_price) answer.old result answer.new }

@@ -1,4 +1,6 @@
 // Collect and mass cancel for hosts: every argument as words. `yubtomiq` says what each call does.
+#![tactic(auto)]
+
 ghost use Rattle.std.specs.Prelude.{map, ◌≡◌, length};
 ghost use Rattle.book.specs.Calls.{written};
 ghost use Rattle.book.specs.Entries.{stop_words};

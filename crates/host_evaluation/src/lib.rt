@@ -1,4 +1,6 @@
 // Segment, step and walk for hosts: every argument as words.
+#![tactic(auto)]
+
 ghost use Rattle.std.specs.Prelude.{map, ◌≡◌, length};
 ghost use Rattle.book.specs.Calls.{written};
 ghost use Rattle.book.specs.Entries.{elected_words, moved_words};

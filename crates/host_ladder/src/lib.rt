@@ -1,4 +1,6 @@
 // The ladder for hosts: every argument as words. `yubtomiq` says what it does.
+#![tactic(auto)]
+
 ghost use Rattle.std.specs.Prelude.{map, ◌≡◌, length};
 ghost use Rattle.book.specs.Calls.{written};
 ghost use Rattle.book.specs.Ladder.{ladder_words};

@@ -1,4 +1,6 @@
 // Pass and run for hosts: every argument as words. Asked before all else: is the path's every flag known (255)?
+#![tactic(auto)]
+
 ghost use Rattle.std.specs.Prelude.{map, ◌≡◌, length};
 ghost use Rattle.book.specs.Calls.{written};
 ghost use Rattle.book.specs.Entries.{elected_words};

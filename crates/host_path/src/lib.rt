@@ -1,4 +1,6 @@
 // The print path for hosts, as four words. `yubtomiq` says what each call does.
+#![tactic(auto)]
+
 ghost use Rattle.std.specs.Prelude.{◌≡◌};
 ghost use Rattle.host_words.specs.Answers.{Told, number, segment_words};
 ghost use Rattle.host_words.specs.ByWords.{record_by_words, take_by_words, reset_by_words};

@@ -1,4 +1,6 @@
 // Change, cancel and search for hosts: every argument as words. `yubtomiq` says what each call does.
+#![tactic(auto)]
+
 ghost use Rattle.std.specs.Prelude.{◌≡◌};
 ghost use Rattle.book.specs.Entries.{stop_words};
 ghost use Rattle.host_words.specs.Answers.{Told, found_words};

@@ -1,4 +1,6 @@
 // Layout, form check, totals and clear for hosts: every argument as words. `yubtomiq` says what each call does.
+#![tactic(auto)]
+
 ghost use Rattle.std.specs.Prelude.{◌≡◌};
 ghost use Rattle.book.specs.Answers.{told_layout, told_quantity};
 ghost use Rattle.book.specs.Store.{lay_out, pending_quantity};

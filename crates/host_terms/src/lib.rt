@@ -1,4 +1,6 @@
 // The terms of a stop and the preview for hosts: every argument as words. `yubtomiq` says what each call does.
+#![tactic(auto)]
+
 ghost use Rattle.std.specs.Prelude.{◌≡◌};
 ghost use Rattle.repricing.specs.Preview.{told_preview};
 ghost use Rattle.stop_terms.specs.Terms.{inconsistency_number};

@@ -1,4 +1,6 @@
 // The turning points of a run for hosts: every argument as words. `yubtomiq` says what the call does.
+#![tactic(auto)]
+
 ghost use Rattle.std.specs.Prelude.{map, ◌≡◌, length};
 ghost use Rattle.book.specs.Calls.{written};
 ghost use Rattle.host_words.specs.Answers.{Told, listed_words};

@@ -12,7 +12,7 @@ use Rattle.stop_protection.specs.declared.Protection.{Protection}
 use Rattle.stop_protection.specs.declared.Protection.TheVariants as protection
 use Rattle.stop_protection.specs.declared.StopProtection.{StopProtection}
 use Rattle.stop_terms.specs.declared.StopTerms.{StopTerms}
-use Rattle.uuid.specs.declared.Uuid.{Uuid}
+use Rattle.uuid_v5.specs.declared.Uuid.{Uuid}
 use Rattle.book.specs.Words.{kind_of, side_from}
 use Rattle.book.specs.declared.LastPrice.{LastPrice}
 use Rattle.book.specs.declared.LastPrice.TheVariants as last

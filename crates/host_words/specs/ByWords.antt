@@ -14,8 +14,10 @@ use Rattle.stop_terms.specs.Terms.{trailed_at, elected_at, inconsistency_of, inc
 use Rattle.stop_terms.specs.declared.StopTerms.{StopTerms}
 use Rattle.stop_trigger.specs.Child.{child_id}
 use Rattle.book.specs.Calls.{SegmentOutcome, segment_call, WalkOutcome, walk_call, PassOutcome, pass_call, run_call}
+use Rattle.book.specs.declared.Counts.{Counts}
 use Rattle.book.specs.declared.PassCounts.{PassCounts}
 use Rattle.book.specs.Calls as calls
+use Rattle.book.specs.Commit.{AskOutcome, ask_call, same_words, commit_call}
 use Rattle.book.specs.Collect.{CollectOutcome, collect, mass_cancel}
 use Rattle.book.specs.Ladder.{LadderOutcome, ladder}
 use Rattle.book.specs.StepCall.{step_call}
@@ -120,6 +122,14 @@ reset_by_words path = on_path path tt (closed (path_of path))
 
 abbrev pub segment_by_words : List ℕ → List ℕ → List ℕ → ℕ → ℕ → SegmentOutcome
 segment_by_words settings prints w elected moved = segment_call (settings_of settings) (prints_of prints) w elected moved
+
+-- asking, and committing with the words of the lists as asked, which are held against those of the entries as they are
+abbrev pub ask_by_words : List ℕ → List ℕ → List ℕ → ℕ → ℕ → AskOutcome
+ask_by_words settings prints w elected moved = ask_call (settings_of settings) (prints_of prints) w elected moved
+
+abbrev pub commit_by_words : List ℕ → List ℕ → List (List ℕ) → List (List ℕ) → List ℕ → StoreOutcome Counts
+commit_by_words settings prints elected moved w =
+    commit_call (same_words elected moved) (settings_of settings) (prints_of prints) w
 
 abbrev pub step_by_words : List ℕ → ℕ → List ℕ → ℕ → List ℕ → ℕ → ℕ → SegmentOutcome
 step_by_words settings falls from p w elected moved =

@@ -1,4 +1,6 @@
 // The words of the calls for hosts: what the words of an argument stand for, and those of what a call answers.
+#![tactic(auto)]
+
 use book::DATA_WORDS;
 
 // What a call returns where a kind, a side, a change, a selector or a flag of the path is no known value.

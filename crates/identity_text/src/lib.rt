@@ -1,4 +1,6 @@
 // Identities put into a lent buffer: a UUID in lower case, a ULID in Crockford's base 32, a number in decimal.
+#![tactic(auto)]
+
 mod hex_groups;
 mod ulid;
 

@@ -1,5 +1,7 @@
 // Whether the pending stops of a store differ in identity and in sequence: by buckets of their keys, in a time that the
 // number of stops bounds and not its square, unless keys are made to collide.
+#![tactic(auto)]
+
 ghost use Rattle.std.specs.Prelude.{◌≡◌, ◌+◌, ◌-◌, ◌<◌};
 ghost use Rattle.pricelevel.specs.Identity.{kind_number};
 ghost use Rattle.book.specs.Words.{kind_of, slots_at, all_differ};

@@ -2,6 +2,8 @@
 // that order, the terms of each are read once, and the prices are gone through for it; the store is only read.
 //
 //     entry: word, whose bit j says that price j elects the stop | how many do | place of the first, or 64
+#![tactic(auto)]
+
 ghost use Rattle.std.specs.Prelude.{map, ◌≡◌, ◌≤◌, length, take};
 ghost use Rattle.book.specs.Answers.{told_list};
 ghost use Rattle.book.specs.Calls.{written};

@@ -1,5 +1,8 @@
-// A program that runs the lent forms: a print is recorded on a lent path, and a segment fills lent lists of records. It
-// prints the path, what the segment answers, and the entries of both lists: those written, and later ones, which stay.
+// A program that runs the lent forms: a print is recorded on a lent path, and a segment is asked, committed with lists of
+// records, and done. It prints the path, what each call answers, and the entries of the lists that it wrote: those
+// written, and later ones, which stay.
+#![tactic(auto)]
+
 use book::{
     Elected, EvaluationAnswer, HEADER_WORDS, LastPrice, Moved, PrintPath, PrintSegment,
     RECORD_WORDS, Settings,
@@ -7,7 +10,7 @@ use book::{
 use pricelevel::{Holder, Id, IdKind, Price, Quantity, Seq, Side};
 use stop_protection::{Limit, Protection};
 use stop_terms::StopTerms;
-use uuid::Uuid;
+use uuid_v5::Uuid;
 
 // A path after a print, which is recorded on it where it is lent.
 fn recorded_once(mut path: PrintPath, pending: u64, prev: LastPrice, price: Price) -> PrintPath {
@@ -25,6 +28,30 @@ fn segment_once(
 ) {
     let answer = stop_orders::segment(s, settings, prints, &mut elected, &mut moved);
     print_segment(answer, elected, moved);
+}
+
+// What a segment would do, asked with two lists, which are printed with the answer.
+fn ask_once(
+    s: &[u64],
+    settings: Settings,
+    prints: PrintSegment,
+    mut elected: [Elected; 2],
+    mut moved: [Moved; 3],
+) {
+    let answer = stop_orders::ask_segment(s, settings, prints, &mut elected, &mut moved);
+    print_segment(answer, elected, moved);
+}
+
+// A segment that is committed with two lists.
+fn commit_once(
+    s: &mut [u64],
+    settings: Settings,
+    prints: PrintSegment,
+    elected: [Elected; 1],
+    moved: [Moved; 1],
+) {
+    let answer = stop_orders::commit_segment(s, settings, prints, &elected, &moved);
+    print_answer(answer);
 }
 
 fn number(n: u64) {
@@ -48,7 +75,7 @@ fn print_moved(m: Moved) {
     io::write_all(1, b"\n");
 }
 
-fn print_segment(answer: EvaluationAnswer, elected: [Elected; 2], moved: [Moved; 3]) {
+fn print_answer(answer: EvaluationAnswer) {
     match answer {
         EvaluationAnswer::Ok(c) => {
             io::write_all(1, b"moves");
@@ -56,11 +83,16 @@ fn print_segment(answer: EvaluationAnswer, elected: [Elected; 2], moved: [Moved;
             io::write_all(1, b" elected");
             number(c.elected);
         }
-        EvaluationAnswer::Err(_) => {
+        EvaluationAnswer::Err(refusal) => {
             io::write_all(1, b"refused");
+            number(refusal.number());
         }
     }
     io::write_all(1, b"\n");
+}
+
+fn print_segment(answer: EvaluationAnswer, elected: [Elected; 2], moved: [Moved; 3]) {
+    print_answer(answer);
     print_elected(elected[0]);
     print_elected(elected[1]);
     print_moved(moved[0]);
@@ -87,6 +119,29 @@ fn blank_elected() -> Elected {
         limit: Limit::None,
         child: id(0),
         pending: false,
+    }
+}
+
+// The entries of the stop that is asked about, with the price that elects it.
+
+fn elected_at(trigger: Price) -> Elected {
+    Elected {
+        id: id(7),
+        side: Side::Sell,
+        stop: Price(97),
+        quantity: Quantity(2),
+        seq: Seq(0),
+        trigger: trigger,
+        limit: Limit::None,
+        child: stop_orders::stop_trigger_order_id(Uuid { high: 0, low: 0 }, id(7)),
+        pending: false,
+    }
+}
+
+fn moved_once() -> Moved {
+    Moved {
+        id: id(7),
+        stop: Price(97),
     }
 }
 
@@ -140,7 +195,25 @@ fn begin(s: &mut [u64]) -> PrintPath {
     admitted.path
 }
 
-// A sweep from 102 down to 96: its first print is recorded on the path, and it ratchets the stop to 97 and elects it.
+// A sweep to 96, asked, committed in vain with another trigger, committed, and committed once more, in vain.
+fn ask_and_commit(s: &mut [u64], prints: PrintSegment) {
+    let asked = [elected_at(Price(96))];
+    let others = [elected_at(Price(95))];
+    let moved = [moved_once()];
+    ask_once(
+        &s[..],
+        settings(),
+        prints,
+        [blank_elected(); 2],
+        [blank_moved(); 3],
+    );
+    commit_once(s, settings(), prints, others, moved);
+    commit_once(s, settings(), prints, asked, moved);
+    commit_once(s, settings(), prints, asked, moved);
+}
+
+// A sweep from 102 down to 96: its first print is recorded on the path, and it ratchets the stop to 97 and elects it. It
+// is asked and committed, and then, on a store that is laid out again, done.
 fn main() {
     let mut s = [0u64; HEADER_WORDS + RECORD_WORDS * 4];
     let before = begin(&mut s);
@@ -154,6 +227,8 @@ fn main() {
         first: first,
         last: Price(96),
     };
+    ask_and_commit(&mut s, prints);
+    let _again = begin(&mut s);
     segment_once(
         &mut s,
         settings(),

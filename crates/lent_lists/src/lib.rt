@@ -1,5 +1,7 @@
 // The lent lists of records: thin writers that place one entry and leave the others, and the loops that fill a list
 // from its start.
+#![tactic(auto)]
+
 ghost use Rattle.std.specs.Prelude.{◌<◌, ◌≤◌, map, ◌≡◌, length, set, take as firsts};
 ghost use Rattle.book.specs.Calls.{written};
 ghost use Rattle.entry_records.specs.Records.{elected_of, moved_of};

@@ -1,12 +1,15 @@
 // A pass over a lent list of records: what it elects is written as words into a local array, as far as the list has
 // room, and from there into the list.
+#![tactic(auto)]
+
 ghost use Rattle.std.specs.Prelude.{◌≡◌, length};
 ghost use Rattle.book.specs.Answers.{told_pass};
 ghost use Rattle.book.specs.Calls.{written, pass_call};
 
 use book::{ELECTED_WORDS, Elected, MOST_RECORDS, PassAnswer, PrintSegment, Settings};
+use copying::least;
 use lent_lists::fill_elected;
-use word_rooms::{least, pass_count};
+use word_rooms::pass_count;
 
 // A pass: segments from a queue, at first this one, until it or the store is empty. Each elected stop whose child
 // identity is free uses the next script entry. The elected are written from the start of the list; later entries stay.

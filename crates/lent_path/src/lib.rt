@@ -1,5 +1,7 @@
 // The print path as one small state that is lent and altered by its three calls, each thin over a core by value (crate
-// print_path). The forms are the specification's; a `&mut` of a struct is proved by hand.
+// print_path). The forms are the specification's.
+#![tactic(auto)]
+
 ghost use Rattle.std.specs.Prelude.{◌≡◌};
 ghost use Rattle.book.specs.Path.{recorded, closed, take};
 ghost use Rattle.print_path.specs.Segments.{told_next};

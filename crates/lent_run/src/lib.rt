@@ -1,4 +1,6 @@
 // The run over store, lent path and lent list: the path over a run by value, which fills the list.
+#![tactic(auto)]
+
 ghost use Rattle.std.specs.Prelude.{map, ◌≡◌, length};
 ghost use Rattle.book.specs.Answers.{told_pass};
 ghost use Rattle.book.specs.Calls.{written, run_call};
@@ -10,11 +12,12 @@ use book::{
     ELECTED_WORDS, Elected, ElectedWords, LastPrice, MOST_RECORDS, PassAnswer, PrintPath, Settings,
     StopRun,
 };
+use copying::least;
 use lent_lists::fill_elected;
-use word_rooms::{least, pass_count};
+use word_rooms::pass_count;
 
 // The path that a run begins with, and the last trade.
-#[derive(Drop)]
+#[derive(Clone, Copy)]
 struct Start {
     path: PrintPath,
     trade: LastPrice,

@@ -1,5 +1,7 @@
 // A segment over lent lists of records: what it elects and moves is written as words into local arrays, and from there
 // into the lists.
+#![tactic(auto)]
+
 ghost use Rattle.std.specs.Prelude.{map, ◌≡◌, length};
 ghost use Rattle.book.specs.Answers.{told_counts};
 ghost use Rattle.book.specs.Calls.{written, segment_call};
@@ -9,8 +11,9 @@ use book::{
     ELECTED_WORDS, Elected, EvaluationAnswer, MOST_MOVES, MOST_RECORDS, MOVED_WORDS, Moved,
     MovedWords, PrintSegment, Settings,
 };
+use copying::least;
 use lent_lists::{fill_elected, fill_moved};
-use word_rooms::{elected_count, least, moved_count};
+use word_rooms::{elected_count, moved_count};
 
 // A segment with the words of what it moves.
 fn segment_moving(

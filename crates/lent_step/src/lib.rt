@@ -1,5 +1,7 @@
 // A step over lent lists of records: what it elects and moves is written as words into local arrays, and from there into
 // the lists.
+#![tactic(auto)]
+
 ghost use Rattle.std.specs.Prelude.{map, ◌≡◌, length};
 ghost use Rattle.book.specs.Answers.{told_counts};
 ghost use Rattle.book.specs.Calls.{written};
@@ -10,12 +12,13 @@ use book::{
     ELECTED_WORDS, Elected, ElectedWords, EvaluationAnswer, LastPrice, MOST_MOVES, MOST_RECORDS,
     MOVED_WORDS, Moved, MovedWords, Settings,
 };
+use copying::least;
 use lent_lists::{fill_elected, fill_moved};
 use pricelevel::Price;
-use word_rooms::{elected_count, least, moved_count};
+use word_rooms::{elected_count, moved_count};
 
 // One print of a run: whether the run falls as a whole, where it comes from, and the print.
-#[derive(Drop)]
+#[derive(Clone, Copy)]
 pub struct PrintStep {
     pub falls: bool,
     pub from: LastPrice,

@@ -1,4 +1,6 @@
 // The calls on store and print path together, the path lent: each is thin over the call by value of the same name.
+#![tactic(auto)]
+
 ghost use Rattle.std.specs.Prelude.{◌≡◌};
 ghost use Rattle.book.specs.Answers.{told_admission, told_layout};
 ghost use Rattle.book.specs.Store.{clear, admit};

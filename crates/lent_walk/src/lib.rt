@@ -1,13 +1,16 @@
 // A walk over a lent list of records: what it elects is written as words into a local array, as far as the list has
 // room, and from there into the list.
+#![tactic(auto)]
+
 ghost use Rattle.std.specs.Prelude.{map, ◌≡◌, length};
 ghost use Rattle.book.specs.Answers.{told_counts};
 ghost use Rattle.book.specs.Calls.{written, walk_call};
 ghost use Rattle.pricelevel.specs.Price.{to_price};
 
 use book::{ELECTED_WORDS, Elected, EvaluationAnswer, LastPrice, MOST_RECORDS, Settings};
+use copying::least;
 use lent_lists::fill_elected;
-use word_rooms::{elected_count, least};
+use word_rooms::elected_count;
 
 // A walk: a point at each price in turn. The elected are written from the start of the list; later entries stay.
 // Refused: the store is not well formed (1); the list is shorter than the pending count (14); not 1 to 4,096 prices

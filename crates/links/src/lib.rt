@@ -1,4 +1,6 @@
 // One chain: the place of a record is found, and the record linked in or out.
+#![tactic(auto)]
+
 ghost use Rattle.std.specs.Prelude.{List, ◌≡◌, ℕ, ◌<◌, T, length};
 ghost use Rattle.book.specs.Words.{cell};
 ghost use Rattle.chains.specs.Indices.{has};

@@ -3,6 +3,8 @@
 //
 //     moved:   kind high low stop
 //     elected: kind high low side stop quantity seq trigger | limit present, high, low, child high, low, child pending
+#![tactic(auto)]
+
 ghost use Rattle.std.specs.Prelude.{List, map, ◌≡◌, ℕ, ◌+◌, ◌≤◌, ◌<◌, length, set};
 ghost use Rattle.std.proofs.lemmas.List.Edits.{sets};
 ghost use Rattle.book.specs.Steps.{elected_in};

@@ -1,5 +1,7 @@
 // The cancel of all pending stops that a selector takes, from orderbook-rs's mass cancels: collect, and then a cancel of
 // each in the order of the list, so that the free chain begins with the record of the last. It touches no print path.
+#![tactic(auto)]
+
 ghost use Rattle.std.specs.Prelude.{List, map, ◌≡◌, ℕ, length};
 ghost use Rattle.book.specs.Answers.{told_list};
 ghost use Rattle.book.specs.Book.{Book, indices};

@@ -1,4 +1,6 @@
 // What a change makes of a stop: its terms, quantity and sequence, from orderbook-rs's update of a stop order.
+#![tactic(auto)]
+
 ghost use Rattle.std.specs.Prelude.{true, cond, not, ◌||◌, ◌≡◌, ◌+◌, ◌-◌, ◌<◌, ◌^◌, ltb};
 ghost use Rattle.book.specs.Book.{Book};
 ghost use Rattle.book.specs.Store.{changed_terms, changed_quantity, takes_sequence, cancels, differs_in_price, with_terms, changed_entry};

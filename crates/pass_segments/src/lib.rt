@@ -1,4 +1,6 @@
 // One segment of a pass: its points, the children of what it elected, and the script entries that they use.
+#![tactic(auto)]
+
 ghost use Rattle.std.specs.Prelude.{true, List, map, ◌≡◌, ℕ, ◌+◌, ◌≤◌, length};
 ghost use Rattle.std.proofs.lemmas.List.Edits.{sets};
 ghost use Rattle.book.specs.Book.{Book, pending_count};
@@ -15,7 +17,7 @@ use segments::segment_points;
 
 // What a segment of a pass did: how many times a stop price became another, where the list of the elected goes on, the
 // script entries used, and the queue's tail.
-#[derive(Drop)]
+#[derive(Clone, Copy)]
 pub struct SegmentPassed {
     pub moves: u64,
     pub at: usize,

@@ -1,5 +1,7 @@
 // A pass on the words of a store: the segments of a queue, one after another, with the script that stands for the
 // matching of the children.
+#![tactic(auto)]
+
 ghost use Rattle.std.specs.Prelude.{true, List, map, ◌≡◌, ℕ, ◌+◌, ◌≤◌, length};
 ghost use Rattle.std.proofs.lemmas.List.Edits.{sets};
 ghost use Rattle.book.specs.Book.{Book, pending_count};
@@ -15,7 +17,7 @@ use segment_queue::{segment_at, segment_words};
 
 // What a pass did: how many times a stop price became another, where the list of the elected goes on, and the script
 // entries used.
-#[derive(Drop)]
+#[derive(Clone, Copy)]
 pub struct Passed {
     pub moves: u64,
     pub at: usize,

@@ -1,5 +1,7 @@
 // The words of the print path and of prices that may be absent: whether they are known, what they stand for, and those
 // of a segment.
+#![tactic(auto)]
+
 ghost use Rattle.std.specs.Prelude.{◌≡◌};
 ghost use Rattle.host_words.specs.Arguments.{last_price_from, last_price_of, prints_of, path_known, path_of};
 ghost use Rattle.print_path.specs.Segments.{told_next};

@@ -1,4 +1,6 @@
 // The operations that change a store: a stop out, a stop in, a stop changed.
+#![tactic(auto)]
+
 ghost use Rattle.std.specs.Prelude.{List, ◌≡◌, ℕ, ◌+◌, ◌-◌, ◌<◌, ◌^◌};
 ghost use Rattle.book.specs.Valid.{Valid, Fits, Admissible};
 ghost use Rattle.book.specs.Book.{Book};

@@ -1,4 +1,6 @@
 // The pending quantity of each side, in two words, as a sum of that many words may need more than one.
+#![tactic(auto)]
+
 ghost use Rattle.std.specs.Prelude.{◌≡◌, ◌+◌, ◌-◌, ◌≤◌, ◌<◌, ◌^◌};
 ghost use Rattle.book.specs.Book.{pending_on};
 ghost use Rattle.book.specs.Store.{quantity_of, total, totals_of};

@@ -1,4 +1,6 @@
 // A point, and the points of a segment and of a walk, on the words of a store.
+#![tactic(auto)]
+
 ghost use Rattle.std.specs.Prelude.{List, map, ◌≡◌, ℕ, ◌+◌, ◌≤◌, length};
 ghost use Rattle.std.proofs.lemmas.List.Edits.{sets};
 ghost use Rattle.book.specs.Steps.{elected_in, taken_on, other, trailed_both, elected_both, taken_both};
@@ -73,7 +75,7 @@ fn elect_both(
 // A point
 
 // What points did: how many times a stop price became another, and where the list of the elected goes on.
-#[derive(Drop)]
+#[derive(Clone, Copy)]
 pub struct Points {
     pub moves: u64,
     pub at: usize,

@@ -1,6 +1,8 @@
 // The value types that orderbook-rs takes from its crate pricelevel: prices, quantities, sides, identities and holders, at
 // 64 bits; the admission sequence, which document 01 makes a kind of number of its own; and two words for what may pass
 // 64 bits.
+#![tactic(auto)]
+
 ghost use Rattle.std.specs.Prelude.{◌≡◌, ◌+◌, ◌<◌, ◌^◌};
 ghost use Rattle.pricelevel.specs.Holder.{same_holder};
 ghost use Rattle.pricelevel.specs.Identity.{kind_number, same_id};
@@ -9,19 +11,19 @@ ghost use Rattle.pricelevel.specs.Tick.{on_tick};
 ghost use Rattle.pricelevel.specs.TwoWords.{number_of};
 
 // A price, in price units.
-#[derive(Drop)]
+#[derive(Clone, Copy)]
 pub struct Price(pub u64);
 
 // A quantity, in units of the product.
-#[derive(Drop)]
+#[derive(Clone, Copy)]
 pub struct Quantity(pub u64);
 
 // An admission sequence, the tie-break of every order of stops.
-#[derive(Drop)]
+#[derive(Clone, Copy)]
 pub struct Seq(pub u64);
 
 // The side of an order.
-#[derive(Drop)]
+#[derive(Clone, Copy)]
 pub enum Side {
     Buy,
     Sell,
@@ -40,7 +42,7 @@ impl Side {
 }
 
 // What an identity was made as.
-#[derive(Drop)]
+#[derive(Clone, Copy)]
 pub enum IdKind {
     Uuid,
     Ulid,
@@ -61,7 +63,7 @@ impl IdKind {
 }
 
 // An order's identity: its kind, and its sixteen bytes as two big-endian words, the high one first.
-#[derive(Drop)]
+#[derive(Clone, Copy)]
 pub struct Id {
     pub kind: IdKind,
     pub high: u64,
@@ -86,7 +88,7 @@ impl Id {
 }
 
 // Who holds a stop: 32 bytes as four big-endian words, the Rust's Hash32.
-#[derive(Drop)]
+#[derive(Clone, Copy)]
 pub struct Holder(pub u64, pub u64, pub u64, pub u64);
 
 impl Holder {
@@ -108,7 +110,7 @@ impl Holder {
 }
 
 // A number of up to 128 bits as two words, high * 2^64 + low: where the Rust has a u128 that may pass 64 bits.
-#[derive(Drop)]
+#[derive(Clone, Copy)]
 pub struct TwoWords {
     pub high: u64,
     pub low: u64,

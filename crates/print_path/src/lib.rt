@@ -1,5 +1,7 @@
 // The print path by value: the recorder of a sweep's first print, from orderbook-rs's stop_orders.rs. Each call answers
 // the path after it.
+#![tactic(auto)]
+
 ghost use Rattle.std.specs.Prelude.{◌≡◌};
 ghost use Rattle.book.specs.Path.{opened, recorded, closed, prev_of, last_or, segment_of, take};
 ghost use Rattle.print_path.specs.Segments.{told_next};
@@ -88,14 +90,14 @@ pub fn segment_of(path: PrintPath, trade: LastPrice) -> PrintSegment
 }
 
 // The segment that is taken from a path, if it was open.
-#[derive(Drop)]
+#[derive(Clone, Copy)]
 pub enum NextSegment {
     None,
     Next(PrintSegment),
 }
 
 // What taking the segment of a path answers, and the path after it.
-#[derive(Drop)]
+#[derive(Clone, Copy)]
 pub struct TakenSegment {
     pub segment: NextSegment,
     pub path: PrintPath,

@@ -1,4 +1,6 @@
 // The form check of each record by itself: a stop's words stand for consistent terms, and a free record holds none.
+#![tactic(auto)]
+
 ghost use Rattle.std.specs.Prelude.{◌≡◌, ◌+◌, ◌-◌, ◌≤◌, ◌<◌, get_or};
 ghost use Rattle.book.specs.Book.{held};
 ghost use Rattle.book.specs.Lists.{every, rising};

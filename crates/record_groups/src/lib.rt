@@ -1,5 +1,7 @@
 // The three groups of records, sells, buys and free: to which a record belongs, how many each has, and where its chain
 // starts.
+#![tactic(auto)]
+
 ghost use Rattle.std.specs.Prelude.{◌≡◌, ◌+◌, ◌-◌};
 ghost use Rattle.book.specs.Book.{chain_side};
 ghost use Rattle.book.specs.Words.{slot_at};

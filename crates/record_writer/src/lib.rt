@@ -1,4 +1,6 @@
 // The words of a stop, and a record written whole: a stop's words with its links, or a free record's.
+#![tactic(auto)]
+
 ghost use Rattle.std.specs.Prelude.{◌≡◌, ◌-◌};
 ghost use Rattle.std.proofs.lemmas.List.Edits.{sets};
 ghost use Rattle.book.specs.Book.{vacant, held};

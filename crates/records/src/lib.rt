@@ -1,5 +1,7 @@
 // The words of a record and of the header: where they stand, reading and writing them, and the rank that orders a
 // chain.
+#![tactic(auto)]
+
 ghost use Rattle.std.specs.Prelude.{◌≡◌, ◌+◌, ◌*◌, ◌≤◌, ◌<◌, ltb, length};
 ghost use Rattle.std.proofs.lemmas.List.Edits.{sets};
 ghost use Rattle.book.specs.Words.{cell, record_word};

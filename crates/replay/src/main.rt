@@ -5,6 +5,8 @@
 // equal watermarks among stops that trail or are elected, a price before that equals the first print, the kill switch,
 // children that print again and elect, limits at 2^64 - 1, at 2^64 and above, stops and collars at the top, sequences
 // near their end, and of each selector nothing, something and everything collected; the others are any.
+#![tactic(auto)]
+
 fn main() {
     session::session();
 }

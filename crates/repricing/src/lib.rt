@@ -1,6 +1,8 @@
 // The preview of a trailing stop, from orderbook-rs's repricing.rs: the stop price that a market price leads to. It
 // reports only moves of the stop, so that a caller who takes the watermark from it falls behind the pending stop's own;
 // the stop itself stays the pending stop's, price by price (proofs/Previewed, document 02, Two).
+#![tactic(auto)]
+
 ghost use Rattle.std.specs.Prelude.{◌≡◌};
 ghost use Rattle.repricing.specs.Preview.{preview, told_preview};
 
@@ -8,14 +10,14 @@ use pricelevel::{Price, Side};
 use stop_terms::Candidate;
 
 // The new stop price and the new reference price.
-#[derive(Drop)]
+#[derive(Clone, Copy)]
 pub struct Adjustment {
     pub stop: Price,
     pub reference: Price,
 }
 
 // What calculate_trailing_stop_price answers.
-#[derive(Drop)]
+#[derive(Clone, Copy)]
 pub enum TrailingStopPrice {
     None,
     Adjusted(Adjustment),

@@ -2,6 +2,8 @@
 //
 //     script entry: printed (0, 1), prev present (0, 1), prev, first, last
 //     queue entry: prev present (0, 1), prev (0 if absent), first, last
+#![tactic(auto)]
+
 ghost use Rattle.std.specs.Prelude.{true, List, ◌≡◌, ◌+◌, ◌*◌, ◌≤◌, ◌<◌, length, drop};
 ghost use Rattle.book.specs.Script.{script_formed, script_segment, execute_one, executed};
 ghost use Rattle.book.specs.Sizes.{script_entry_length};
@@ -52,7 +54,7 @@ fn put_printed(script: &[u64], at: usize, queue: &mut [[u64; 4]], tail: usize) -
 }
 
 // How far a segment's elected came: the entries of the script that they used, and the queue's tail.
-#[derive(Drop)]
+#[derive(Clone, Copy)]
 pub struct Execution {
     pub used: usize,
     pub tail: usize,

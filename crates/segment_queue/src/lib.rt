@@ -1,4 +1,6 @@
 // The queue of a pass: the segments that children print, as words.
+#![tactic(auto)]
+
 ghost use Rattle.std.specs.Prelude.{List, ◌≡◌};
 ghost use Rattle.book.specs.declared.PrintSegment.{PrintSegment};
 ghost use Rattle.print_path.specs.Segments.{told_next};

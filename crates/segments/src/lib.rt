@@ -1,4 +1,6 @@
 // The points of a segment, at its first print and at its last if that differs, and the lists that they fill.
+#![tactic(auto)]
+
 ghost use Rattle.std.specs.Prelude.{List, map, ◌≡◌, ℕ, ◌+◌, ◌*◌, ◌≤◌, length};
 ghost use Rattle.std.proofs.lemmas.List.Edits.{sets};
 ghost use Rattle.book.specs.Book.{Book, pending_count};
@@ -33,7 +35,7 @@ pub fn list_moves(s: &[u64], n: u64, price: Price, moved: &mut [MovedWords], at:
 // A segment
 
 // The second point of a segment, if it has one.
-#[derive(Drop)]
+#[derive(Clone, Copy)]
 enum SecondPoint {
     None,
     At(Price),

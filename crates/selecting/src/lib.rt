@@ -2,6 +2,8 @@
 // only read.
 //
 //     entry: kind high low side stop watermark trail quantity seq | the holder's four words
+#![tactic(auto)]
+
 ghost use Rattle.std.specs.Prelude.{map, ◌≡◌, ◌≤◌, length, take};
 ghost use Rattle.book.specs.Calls.{written};
 ghost use Rattle.book.specs.Collect.{selects};

@@ -3,7 +3,7 @@ use session_text::{names, printing};
 use word_groups::{copy, four, set, word};
 
 // How many words and entries are lent, and what is shown of the store after a call.
-#[derive(Drop)]
+#[derive(Clone, Copy)]
 pub struct Desk {
     pub words: usize,
     pub elected: usize,

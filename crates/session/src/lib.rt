@@ -18,6 +18,8 @@
 //     update ID CHANGE MAYBE                                               CHANGE: kind, side, price, quantity
 //     segment SETTINGS PRINTS, walk SETTINGS MAYBE PRICE ..                SETTINGS: kill, collar, namespace high, low
 //     pass SETTINGS PRINTS SCRIPT, run SETTINGS MAYBE SCRIPT               PRINTS: MAYBE, first, last
+//     ask SETTINGS PRINTS
+//     commit SETTINGS PRINTS N M ENTRY ..      N elected entries of the list that is handed in, and M moved ones
 //     step SETTINGS FALLS MAYBE PRICE                                      FALLS: 0 no, any other yes
 //     collect SELECTOR, mass_cancel SELECTOR                               SELECTOR: 0 HOLDER; 1 SIDE; 2 lowest, highest
 //     ladder PRICE .., turns PRICE ..
@@ -33,6 +35,8 @@
 //     lists N M K       lists of N elected and M moved, of K entries for collect, mass_cancel and ladder, of K places for turns
 //     show K            after a call on the store: 0 nothing; 1 the words that changed; 2 next sequence, pending
 //                       count, the stops that changed by rising sequence, and the sequence of each that is gone
+#![tactic(auto)]
+
 mod lending;
 mod reading;
 mod running;

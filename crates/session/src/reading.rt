@@ -8,7 +8,7 @@ use session_text::numbers::place_of;
 use session_text::printing;
 
 // Where a text's lines end, and what is lent after them.
-#[derive(Drop)]
+#[derive(Clone, Copy)]
 struct Done {
     at: usize,
     desk: Desk,
@@ -53,7 +53,7 @@ fn more(text: &mut [u8], kept: usize) -> usize
 }
 
 // What a turn read, how many bytes of a line it kept, and what is lent after it.
-#[derive(Drop)]
+#[derive(Clone, Copy)]
 struct Turn {
     got: usize,
     kept: usize,

@@ -11,13 +11,14 @@ fn alter(call: u64, s: &mut [u64], path: &mut [u64; 4], n: &[u64], desk: Desk) {
         session_store::alter(call, s, path, n);
         return;
     }
-    if call < names::COLLECT {
+    if call < names::COLLECT || call == names::ASK {
         session_lists::run(call, s, path, n, desk.elected, desk.moved);
         return;
     }
     match call {
         names::LADDER => session_lists::ladder(&s[..], n, desk.listed),
         names::TURNS => session_lists::turns(n, desk.listed),
+        names::COMMIT => session_lists::commit(s, n),
         _ => session_lists::collect(call, s, n, desk.listed),
     }
 }
@@ -45,7 +46,7 @@ fn call(call: u64, words: &mut [u64], path: &mut [u64; 4], n: &[u64], desk: Desk
         session_values::run(call, path, n);
         return desk;
     }
-    if call >= names::WORDS {
+    if call >= names::WORDS && call != names::ASK && call != names::COMMIT {
         return lending::run(call, words, path, n, desk);
     }
     let size = desk.words;

@@ -1,22 +1,26 @@
-// Lines that evaluate a store, collect its stops, try prices on them or list turning points, and the lists that they
-// lend: every word of these is the same before a call, so that all that the call wrote is printed, and an entry behind
-// the last that it lists as well, should it write there.
+// Lines that evaluate a store, commit what was asked, collect its stops, try prices on them or list turning points, and
+// the lists that they lend: every word of these is the same before a call, so that all that the call wrote is printed,
+// and an entry behind the last that it lists as well, should it write there.
+#![tactic(auto)]
+
 use crate::entries::entry;
 use book::{ELECTED_WORDS, ElectedWords, MOVED_WORDS, MovedWords};
 use session_text::lent::{LENT, MOST_ELECTED, MOST_MOVED};
 use session_text::{names, printing};
 use word_groups::{four, rest, two, word};
 use yubtomiq::{
-    yubtomiq_evaluate_pending_stops, yubtomiq_run_stop_triggers, yubtomiq_segment, yubtomiq_step,
-    yubtomiq_walk,
+    yubtomiq_ask_segment, yubtomiq_evaluate_pending_stops, yubtomiq_run_stop_triggers,
+    yubtomiq_segment, yubtomiq_step, yubtomiq_walk,
 };
 
 mod collecting;
+mod committing;
 mod entries;
 mod trying;
 mod turning;
 
 pub use collecting::collect;
+pub use committing::commit;
 pub use trying::ladder;
 pub use turning::turns;
 
@@ -62,6 +66,22 @@ fn segment_of(
 fn segment(s: &mut [u64], n: &[u64], elected: &mut [ElectedWords], moved: &mut [MovedWords]) {
     let mut answer = [LENT; 2];
     let r = segment_of(s, n, elected, moved, &mut answer);
+    printing::two(r, &answer);
+}
+
+fn ask_of(
+    s: &[u64],
+    n: &[u64],
+    elected: &mut [ElectedWords],
+    moved: &mut [MovedWords],
+    answer: &mut [u64; 2],
+) -> u64 {
+    yubtomiq_ask_segment(s, &four(n), &four(rest(n, 4)), elected, moved, answer)
+}
+
+fn ask(s: &[u64], n: &[u64], elected: &mut [ElectedWords], moved: &mut [MovedWords]) {
+    let mut answer = [LENT; 2];
+    let r = ask_of(s, n, elected, moved, &mut answer);
     printing::two(r, &answer);
 }
 
@@ -148,6 +168,7 @@ fn evaluate(
         names::WALK => walk(s, n, elected),
         names::PASS => pass(s, n, elected),
         names::STEP => step(s, n, elected, moved),
+        names::ASK => ask(&s[..], n, elected, moved),
         _ => triggers(s, path, n, elected),
     }
 }

@@ -1,4 +1,6 @@
 // Lines that lay out, ask and change a store.
+#![tactic(auto)]
+
 use book::{DATA_WORDS, MOST_RECORDS, StopWords};
 use host_words::{FOUND_WORDS, HolderWords};
 use session_text::lent::LENT;

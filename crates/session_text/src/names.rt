@@ -73,9 +73,13 @@ pub const LISTS: u64 = 34;
 
 pub const SHOW: u64 = 35;
 
+pub const ASK: u64 = 36;
+
+pub const COMMIT: u64 = 37;
+
 // Every name, with a space behind it.
-const NAMES: [u8; 251] =
-    *b"trailed elected_by inconsistency preview draw limit collar collar_tick child record take reset well_formed quantity find layout clear cancel admit update segment walk pass run step collect mass_cancel ladder turns words set store book path lists show ";
+const NAMES: [u8; 262] =
+    *b"trailed elected_by inconsistency preview draw limit collar collar_tick child record take reset well_formed quantity find layout clear cancel admit update segment walk pass run step collect mass_cancel ladder turns words set store book path lists show ask commit ";
 
 // Whether two texts are the same.
 fn same(a: &[u8], b: &[u8]) -> bool {

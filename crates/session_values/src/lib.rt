@@ -1,4 +1,6 @@
 // Lines that take values alone, or the print path.
+#![tactic(auto)]
+
 use session_text::names;
 
 mod draw_lines;

@@ -1,4 +1,6 @@
 // SHA-1's message schedule, from a padded message of one block.
+#![tactic(auto)]
+
 ghost use Rattle.std.specs.Prelude.{◌≡◌, ◌+◌, ◌-◌, ◌*◌, ◌/◌, ◌%◌, ◌^◌, ◌≤◌, ◌<◌, ◌++◌, length, get_or};
 ghost use Rattle.fips180.specs.Fips.{rotl, block_count, pad, word_at, next_word, schedule};
 

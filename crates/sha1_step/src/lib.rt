@@ -1,4 +1,6 @@
 // One step of SHA-1, and the sum of a block's result with the hash value.
+#![tactic(auto)]
+
 ghost use Rattle.std.specs.Prelude.{◌≡◌, ◌+◌, ◌-◌, ◌%◌, ◌^◌, ◌<◌};
 ghost use Rattle.fips180.specs.declared.State.{State};
 ghost use Rattle.fips180.specs.Fips.{rotl, f, K, step, sums};

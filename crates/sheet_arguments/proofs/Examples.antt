@@ -1,9 +1,9 @@
 -- Arguments as theorems, which the checker computes.
 use mathlib.Core.Path.{◌≡◌, refl}
-use mathlib.Core.List.{List, [], ◌∷◌}
+use mathlib.Core.List.{[], ◌∷◌}
 use Rattle.text_words.specs.Words.{word_start, word_end, run, separates, spells, same_text, folded}
 use Rattle.text_numbers.specs.Numbers.{number_at, number_between, number_from, with_digit}
-use Rattle.text_numbers.specs.Steps.{bad, got, missing, not_number, too_large}
+use Rattle.text_numbers.specs.Steps.{bad, got, missing, not_number}
 use Rattle.sheet_words.specs.Words.{optional_at, either_at, range_at, started_at, child_at, none_text, from_text, on_text, off_text, sell_text, buy_text}
 use Rattle.sheet_arguments.specs.Arguments.{argument_at, not_on_off, not_side}
 

@@ -1,4 +1,6 @@
 // The arguments of a worksheet's commands: one function for each letter of a signature.
+#![tactic(auto)]
+
 ghost use Rattle.std.specs.Prelude.{◌≤◌, ◌≡◌, length};
 ghost use Rattle.sheet_arguments.specs.Arguments.{argument_at};
 

@@ -13,7 +13,7 @@ pub fn by_grammar(line: &[u8], start: usize, end: usize, values: &mut [u64]) -> 
     ensures { Told (command_from (lines_of grammar) 1 line.now start end) values.old values.new result }
 {
     by_rows(
-        b"records n\ntick n\ncollar o\nnamespace u\nkill b\nlast o\nsell innnnH\nbuy innnnH\nqty in\nprice in\nboth inn\nreplace isnn\ncancel i\ncancel-holder h\nclear\nprints p\nwalk\nends\ncompare\nturns\nchild c\npass\nladder p\nlist\nholder h\ntotals\n",
+        b"records n\ntick n\ncollar o\nnamespace u\nkill b\nlast o\nsell innnnH\nbuy innnnH\nqty in\nprice in\nboth inn\nreplace isnn\ncancel i\ncancel-holder h\nclear\nprints p\nwalk\nends\ncompare\nturns\nchild c\npass\nladder p\nlist\nholder h\ntotals\nask\ncommit\n",
         line,
         start,
         end,

@@ -1,4 +1,6 @@
 // A worksheet's line as a command: its number, and the values of its arguments.
+#![tactic(auto)]
+
 mod grammar;
 mod rows;
 
@@ -9,7 +11,7 @@ pub use text_numbers::put_numbers;
 use text_words::next_word;
 
 // A command's number, or 0; a fault, or 0, and its column.
-#[derive(Drop)]
+#[derive(Clone, Copy)]
 pub struct Read {
     pub kind: u64,
     pub fault: u64,

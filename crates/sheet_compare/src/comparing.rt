@@ -1,15 +1,12 @@
 // A run walked, and by its ends, side by side.
 use book::{
-    ELECTED_WORDS, ElectedWords, HEADER_WORDS, MOST_MOVES, MOST_RECORDS, MOVED_WORDS, MovedWords,
-    PENDING_PLACE, RECORD_WORDS,
+    ELECTED_WORDS, ElectedWords, MOST_MOVES, MOST_RECORDS, MOVED_WORDS, MovedWords, PENDING_PLACE,
+    STORE_WORDS,
 };
 use sheet_desk::{LINE, SETTINGS, TRADE, refused, tell};
 use sheet_lines::names;
 use word_groups::{copy, four, rest, two, word};
 use yubtomiq::yubtomiq_evaluate_both_ways;
-
-// The words of the largest store.
-const STORE_WORDS: usize = HEADER_WORDS + RECORD_WORDS * MOST_RECORDS;
 
 fn both_of(
     ends: &mut [u64],

@@ -2,8 +2,11 @@
 //
 // The bytes of a printed line are `line_of` of its row and values (sheet_lines). That the buffer reaches standard output
 // is not proved.
+#![tactic(auto)]
+
 ghost use Rattle.std.specs.Prelude.{◌≤◌, length};
 
+use book::{ELECTED_WORDS, MOST_MOVES, MOST_RECORDS, MOVED_WORDS};
 use sheet_lines::{names, put_line};
 use word_groups::{set, word};
 
@@ -66,6 +69,21 @@ pub const CIRCLE: usize = 25;
 pub const DRAWS: usize = 28;
 
 pub const DESK_WORDS: usize = 29;
+
+// Behind these words, what was asked: the number of the line, 0 where there is none; how many it moves and elects; and
+// the entries of both lists, each with room for the most.
+pub const ASKED_LINE: usize = DESK_WORDS;
+
+pub const ASKED_MOVES: usize = 30;
+
+pub const ASKED_ELECTS: usize = 31;
+
+pub const ASKED_ELECTED: usize = 32;
+
+pub const ASKED_MOVED: usize = ASKED_ELECTED + ELECTED_WORDS * MOST_RECORDS;
+
+// With what was asked.
+pub const WHOLE_DESK_WORDS: usize = ASKED_MOVED + MOVED_WORDS * MOST_MOVES;
 
 // What is written: text, a table, or a picture.
 pub const TEXT: u64 = 0;
@@ -146,8 +164,15 @@ pub fn tell_picture(out: &mut [u8], desk: &mut [u64], row: u64, values: &[u64]) 
     }
 }
 
-// The row of a refusal's sentence.
+// The refusal of a commit whose lists are not those that the store gives.
+const LISTS_DIFFER: u64 = 20;
+
+// The row of a refusal's sentence. Its row stands elsewhere than those of the others, which stand one behind the
+// other, at their numbers.
 fn sentence(number: u64) -> u64 {
+    if number == LISTS_DIFFER {
+        return names::REFUSED_20;
+    }
     if number > names::MOST_REFUSALS {
         return names::REFUSED;
     }

@@ -1,4 +1,6 @@
 // The table of printed lines: a line is a row of the table, a form, with a line feed behind it.
+#![tactic(auto)]
+
 pub mod names;
 mod rows;
 

@@ -187,6 +187,28 @@ pub const PICTURE_DONE: u64 = 119;
 
 pub const PICTURE_STOPPED: u64 = 120;
 
+pub const ASK: u64 = 121;
+
+pub const ASKED_MOVED: u64 = 122;
+
+pub const ASKED_ELECTED: u64 = 123;
+
+pub const ASKED: u64 = 124;
+
+pub const COMMIT: u64 = 125;
+
+pub const COMMITTED: u64 = 126;
+
+pub const TABLE_ASKED_MOVED: u64 = 127;
+
+pub const TABLE_ASKED_ELECTED: u64 = 128;
+
+pub const TABLE_COMMITTED_MOVED: u64 = 129;
+
+pub const NOT_ASKED: u64 = 130;
+
+pub const REFUSED_20: u64 = 131;
+
 // How many sentences stand behind `REFUSED` and `FAULTS`.
 pub const MOST_REFUSALS: u64 = 19;
 

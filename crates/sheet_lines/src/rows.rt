@@ -1,6 +1,7 @@
 // A row of the table: its group, and its place there. The first groups are found first.
 mod group0;
 mod group1;
+mod group2;
 
 ghost use Rattle.std.specs.Prelude.{◌+◌, ◌≤◌, [], length, get_or};
 ghost use Rattle.text_buffer.specs.Writing.{Put};
@@ -19,6 +20,10 @@ pub fn put_row(buf: &mut [u8], at: usize, k: u64, values: &[u64]) -> usize
     let k1 = k - 16;
     if k1 < 105 {
         return group1::put_group(buf, at, k1 as usize, values);
+    }
+    let k2 = k1 - 105;
+    if k2 < 11 {
+        return group2::put_group(buf, at, k2 as usize, values);
     }
     at
 }

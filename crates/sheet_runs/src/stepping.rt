@@ -1,8 +1,8 @@
 // A run walked step by step, and by its two ends alone.
 use crate::telling::{draw_moves, elections, tell_moves};
 use book::{
-    DATA_WORDS, ELECTED_WORDS, ElectedWords, HEADER_WORDS, MOST_RECORDS, MOVED_WORDS, MovedWords,
-    RECORD_WORDS, StopWords,
+    DATA_WORDS, ELECTED_WORDS, ElectedWords, MOST_RECORDS, MOVED_WORDS, MovedWords, STORE_WORDS,
+    StopWords,
 };
 use sheet_desk::{
     BEGAN, DRAWS, FALLS, LINE, MODE, MOVES, NUMBER, PICTURE, PRICE, PRINTS, SETTINGS, TRADE, TURN,
@@ -13,9 +13,6 @@ use sheet_listing::{collect_all, left};
 use sheet_pictures::MARKS;
 use word_groups::{copy, four, rest, set, two, word};
 use yubtomiq::yubtomiq_step;
-
-// The words of the largest store.
-const STORE_WORDS: usize = HEADER_WORDS + RECORD_WORDS * MOST_RECORDS;
 
 // A step at the print that the run is at, come from the last trade.
 fn step_of(
@@ -173,10 +170,7 @@ fn prints(
 
 // The last price of a run.
 pub fn last_of(run: &[u64]) -> u64 {
-    if run.len() == 0 {
-        return 0;
-    }
-    run[run.len() - 1]
+    word_groups::last(run)
 }
 
 // Whether a run falls as a whole, which decides which side comes first where it stands still: 1 if its last price is no

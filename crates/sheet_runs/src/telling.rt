@@ -1,5 +1,5 @@
 // What happens at a print: moves and elections, told as text, as rows of a table, or drawn.
-use book::{ElectedWords, MovedWords, PENDING_PLACE, StopWords};
+use book::{ElectedWords, MovedWords, StopWords};
 use sheet_desk::{BEGAN, DRAWS, LINE, NUMBER, PRICE, TURN, tell_table, tell_text};
 use sheet_lines::names;
 use word_groups::{set, word};
@@ -145,12 +145,6 @@ pub fn next_turn(desk: &mut [u64]) -> u64 {
     turn
 }
 
-fn tell_pending(desk: &mut [u64], out: &mut [u8], pending: u64) {
-    if pending != 0 {
-        tell_text(out, desk, names::CHILD_PENDING, &[0]);
-    }
-}
-
 // An election in a turn, in a row of text that ends with the trigger price or before it, and in one of a table.
 pub fn tell_elected(
     desk: &mut [u64],
@@ -160,17 +154,7 @@ pub fn tell_elected(
     turn: u64,
     e: ElectedWords,
 ) {
-    let line = word(&desk[..], LINE);
-    let values = [
-        turn, e[3], e[0], e[1], e[2], e[5], e[4], e[8], e[9], e[10], e[6], e[11], e[12], e[7],
-    ];
-    tell_text(out, desk, row, &values);
-    tell_pending(desk, out, e[PENDING_PLACE]);
-    let cells = [
-        line, number, e[7], turn, e[0], e[1], e[2], e[3], e[4], e[5], e[6], e[8], e[9], e[10],
-        e[11], e[12],
-    ];
-    tell_table(out, desk, names::TABLE_ELECTED, &cells);
+    sheet_listing::tell_elected(desk, out, row, names::TABLE_ELECTED, number, turn, &e);
 }
 
 // An election: told, or drawn.

@@ -1,4 +1,6 @@
 // The arguments of a command by its signature, their values put into a lent list.
+#![tactic(auto)]
+
 ghost use Rattle.std.specs.Prelude.{◌+◌, ◌^◌, ◌≤◌, ◌<◌, ◌≡◌, length};
 ghost use Rattle.std.proofs.lemmas.List.Edits.{sets};
 ghost use Rattle.text_numbers.specs.Steps.{values_of};
@@ -9,7 +11,7 @@ use text_numbers::{Step, put_number};
 use text_words::next_word;
 
 // The fault of a line and its column; 0 and 0 where there is none.
-#[derive(Drop)]
+#[derive(Clone, Copy)]
 pub struct Taken {
     pub fault: u64,
     pub column: usize,

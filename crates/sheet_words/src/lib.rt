@@ -1,4 +1,6 @@
 // Arguments that are words of the language, or numbers in their place.
+#![tactic(auto)]
+
 mod child_words;
 mod words;
 

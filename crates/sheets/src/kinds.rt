@@ -50,3 +50,7 @@ pub const LIST: u64 = 24;
 pub const HOLDER: u64 = 25;
 
 pub const TOTALS: u64 = 26;
+
+pub const ASK: u64 = 27;
+
+pub const COMMIT: u64 = 28;

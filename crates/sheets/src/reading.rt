@@ -1,9 +1,10 @@
 // A text read line by line.
 use crate::{kinds, running};
-use book::{HEADER_WORDS, MOST_PRICES, MOST_RECORDS, RECORD_WORDS, SCRIPT_ENTRY_WORDS};
+use book::{MOST_PRICES, MOST_RECORDS, SCRIPT_ENTRY_WORDS, STORE_WORDS};
 use sheet_commands::read_command;
 use sheet_desk::{
-    DESK_WORDS, LINE, MODE, PICTURE, RECORDS, STOPPED, end, say, tell, tell_picture, tell_table,
+    LINE, MODE, PICTURE, RECORDS, STOPPED, WHOLE_DESK_WORDS, end, say, tell, tell_picture,
+    tell_table,
 };
 use sheet_lines::names;
 use text_holders::holder_at;
@@ -14,8 +15,6 @@ use yubtomiq::yubtomiq_layout_store;
 
 // The most bytes of a sheet, and one more, which tells that there are too many.
 pub const MOST_TEXT: usize = 0x8_0000;
-
-const STORE_WORDS: usize = HEADER_WORDS + RECORD_WORDS * MOST_RECORDS;
 
 const SCRIPT_WORDS: usize = SCRIPT_ENTRY_WORDS * MOST_RECORDS;
 
@@ -203,7 +202,7 @@ pub fn sheet(all: &[u8], mode: u64) {
     let mut s = [0u64; STORE_WORDS];
     let mut run = [0u64; MOST_PRICES];
     let mut script = [0u64; SCRIPT_WORDS];
-    let mut desk = [0u64; DESK_WORDS];
+    let mut desk = [0u64; WHOLE_DESK_WORDS];
     begin(text, mode, &mut s, &mut desk, &mut out);
     lines(text, &mut s, &mut run, &mut script, &mut desk, &mut out);
     finish(&mut desk, &mut out);
@@ -213,7 +212,7 @@ pub fn sheet(all: &[u8], mode: u64) {
 // A sheet that is not read at all, with the reason.
 pub fn not_read(row: u64) {
     let mut out = io::large_buffer();
-    let mut desk = [0u64; DESK_WORDS];
+    let mut desk = [0u64; WHOLE_DESK_WORDS];
     say(&mut out, &mut desk, row, &[MOST_TEXT as u64 - 1]);
     say(&mut out, &mut desk, names::STOPPED, &[0]);
     end(&out, &desk);

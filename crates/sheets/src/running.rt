@@ -118,6 +118,8 @@ fn runs(
         kinds::COMPARE => sheet_compare::compare(&s[..], desk, out, taken),
         kinds::TURNS => sheet_compare::turns(desk, out, taken),
         kinds::CHILD => sheet_runs::child(script, desk, out, v),
+        kinds::ASK => sheet_asking::ask(&s[..], desk, out, taken),
+        kinds::COMMIT => sheet_asking::commit(s, desk, out, taken),
         _ => pass(s, taken, &script[..], desk, out),
     }
 }

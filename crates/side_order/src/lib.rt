@@ -1,4 +1,6 @@
 // Which side a print serves first, and whether it falls.
+#![tactic(auto)]
+
 ghost use Rattle.std.specs.Prelude.{◌≡◌};
 ghost use Rattle.book.specs.Steps.{other, first_side};
 ghost use Rattle.book.specs.Evaluation.{sells_first, falls_to};

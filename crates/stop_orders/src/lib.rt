@@ -5,6 +5,8 @@
 // `Refusal::number` gives the number of a refusal.
 
 // The values that calls take and answer
+#![tactic(auto)]
+
 pub use book::{
     AdmissionAnswer, Counts, Elected, EvaluationAnswer, FindAnswer, LadderWords, LastPrice,
     LayoutAnswer, ListAnswer, Moved, OrderUpdate, PassAnswer, PassCounts, PrintPath, PrintSegment,
@@ -19,7 +21,7 @@ pub use stop_protection::{
     Limit, LimitPrice, NewProtection, Protection, StopProtection, TickCheck,
 };
 pub use stop_terms::{Inconsistency, StopTerms};
-pub use uuid::Uuid;
+pub use uuid_v5::Uuid;
 
 // Lays a store of n records and a tick, 0 for none, out in lent words. Refused: n is not 1 to 545, or there are too few
 // words (2).
@@ -94,6 +96,14 @@ pub use lent_store::clear;
 // A segment: a point at its first print, and one at its last if that differs. Refused: the store is not well formed
 // (1); a list is shorter than the pending count asks (14).
 pub use lent_segment::segment;
+
+// What a segment would elect and move, with the store only read. Refused as a segment is.
+pub use lent_ask::ask_segment;
+
+// The segment that was asked, if the store of this moment gives these very lists, in length and every field; they are only
+// read. Asking and then committing, with no call between, is the segment. Refused: the store is not well formed (1); it
+// gives other lists (20).
+pub use lent_commit::commit_segment;
 
 // A step of a walk: a point at one print of a run, told where the run comes from and whether it falls as a whole. Along a
 // run the steps list what its walk lists, each with its own end for whether a child is pending. Refused: the store is not

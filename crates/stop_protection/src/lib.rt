@@ -1,6 +1,8 @@
 // Protection collar for elected stops, from orderbook-rs's stop_protection.rs: an elected stop executes as a limit
 // order at its stop price moved by the collar against it. A sell's collar that reaches past the lowest price does not
 // protect it. A buy's limit may pass the highest price, so it has two words.
+#![tactic(auto)]
+
 ghost use Rattle.std.specs.Prelude.{◌≡◌, ◌<◌, ◌^◌};
 ghost use Rattle.pricelevel.specs.TwoWords.{number_of};
 ghost use Rattle.stop_protection.specs.Collar.{try_new, told_new, limit_for, limit_under, limit_words, check_tick_size, told_check};
@@ -10,11 +12,11 @@ use pricelevel::{Price, Side, TwoWords};
 
 // The limit price of an elected stop's order. It has a type of its own, since no order rests at it: a buy's may need
 // both words.
-#[derive(Drop)]
+#[derive(Clone, Copy)]
 pub struct LimitPrice(pub TwoWords);
 
 // The limit of an elected stop's order: none for a market order.
-#[derive(Drop)]
+#[derive(Clone, Copy)]
 pub enum Limit {
     None,
     At(LimitPrice),
@@ -34,20 +36,20 @@ impl Limit {
 }
 
 // A collar, in price units, which is never zero: no protection is Protection::None, not a zero collar.
-#[derive(Drop)]
+#[derive(Clone, Copy)]
 pub struct StopProtection {
     collar: u64,
 }
 
 // What try_new answers.
-#[derive(Drop)]
+#[derive(Clone, Copy)]
 pub enum NewProtection {
     Ok(StopProtection),
     Err(Refusal),
 }
 
 // What check_tick_size answers.
-#[derive(Drop)]
+#[derive(Clone, Copy)]
 pub enum TickCheck {
     Ok,
     Err(Refusal),
@@ -115,7 +117,7 @@ impl StopProtection {
 }
 
 // A book's protection: perhaps none.
-#[derive(Drop)]
+#[derive(Clone, Copy)]
 pub enum Protection {
     None,
     Collar(StopProtection),

@@ -1,4 +1,6 @@
 // The run over path and store, from orderbook-rs's stop_orders.rs: a pass over the path's segment, and the path reset.
+#![tactic(auto)]
+
 ghost use Rattle.std.specs.Prelude.{cond, not, ◌||◌, map, ◌≡◌, eqb, length};
 ghost use Rattle.std.proofs.Math.Option.{none, some};
 ghost use Rattle.book.specs.Calls.{written, run_call};

@@ -1,13 +1,15 @@
 // The trailing parameters of a stop, from orderbook-rs's stop_orders.rs. The watermark follows the trades in the stop's
 // favour, up for a sell and down for a buy; the stop tightens to the trail behind it and is elected by a trade at or
 // through it.
+#![tactic(auto)]
+
 ghost use Rattle.std.specs.Prelude.{◌≡◌};
 ghost use Rattle.stop_terms.specs.Terms.{behind, candidate, told_candidate, tightened, trailed_at, elected_at, inconsistency_of};
 
 use pricelevel::{Price, Side};
 
 // Side, stop price, watermark, and the trail: a distance in price units.
-#[derive(Drop)]
+#[derive(Clone, Copy)]
 pub struct StopTerms {
     pub side: Side,
     pub stop: Price,
@@ -16,14 +18,14 @@ pub struct StopTerms {
 }
 
 // Where a trade would put a stop that trails it: nowhere, if that is no price.
-#[derive(Drop)]
+#[derive(Clone, Copy)]
 pub enum Candidate {
     None,
     At(Price),
 }
 
 // What is inconsistent in a stop's terms.
-#[derive(Drop)]
+#[derive(Clone, Copy)]
 pub enum Inconsistency {
     None,
     ZeroTrail,

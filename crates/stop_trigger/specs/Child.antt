@@ -3,8 +3,8 @@ use Rattle.std.specs.Prelude.{ℕ, List, [], ◌∷◌, ◌++◌}
 use Rattle.pricelevel.specs.Identity.{kind_number}
 use Rattle.pricelevel.specs.declared.Id.{Id}
 use Rattle.pricelevel.specs.declared.IdKind.TheVariants as kind
-use Rattle.uuid.specs.Rfc9562.{octets_of, uuid_of, v5}
-use Rattle.uuid.specs.declared.Uuid.{Uuid}
+use Rattle.uuid_v5.specs.Rfc9562.{octets_of, uuid_of, v5}
+use Rattle.uuid_v5.specs.declared.Uuid.{Uuid}
 
 -- the 25 bytes `orderbook-rs/stop-trigger`
 abbrev pub label : List ℕ

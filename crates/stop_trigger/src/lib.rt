@@ -1,11 +1,13 @@
 // The identity of the child order that an elected stop executes as, from orderbook-rs's stop_orders.rs: a UUID of
 // version 5 of the book's namespace and the stop's identity, so that a replay with the same namespace has the same
 // identities.
+#![tactic(auto)]
+
 ghost use Rattle.std.specs.Prelude.{◌≡◌};
 ghost use Rattle.stop_trigger.specs.Child.{child_name, child_id};
 
 use pricelevel::{Id, IdKind};
-use uuid::Uuid;
+use uuid_v5::Uuid;
 
 // The name that is hashed: the label, the kind's number and the sixteen bytes of the identity.
 fn name(kind: u8, bytes: [u8; 16]) -> [u8; 42]

@@ -1,4 +1,6 @@
 // The words of a stop, as a call answers it, and of a change.
+#![tactic(auto)]
+
 ghost use Rattle.std.specs.Prelude.{◌≡◌};
 ghost use Rattle.book.specs.Answers.{told_find, told_stop};
 ghost use Rattle.book.specs.Entries.{stop_words};

@@ -1,5 +1,7 @@
 // Cancel, search, clear and totals on a store of pending stops, from orderbook-rs's stop_orders.rs: the questions of
 // each in their order, then one operation; a refused call alters nothing.
+#![tactic(auto)]
+
 ghost use Rattle.std.specs.Prelude.{◌≡◌, ◌-◌};
 ghost use Rattle.book.specs.Path.{closed};
 ghost use Rattle.book.specs.Store.{clear, find, cancel, pending_quantity};

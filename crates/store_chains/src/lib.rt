@@ -1,5 +1,7 @@
 // The five chains of a store: a record taken out of one or put into it, the free chain as a stack, a stop linked in
 // both of its side.
+#![tactic(auto)]
+
 ghost use Rattle.std.specs.Prelude.{List, ◌∷◌, ◌≡◌, ℕ, T};
 ghost use Rattle.book.specs.Words.{cell, record_word};
 ghost use Rattle.book.specs.Sizes.{next_by_watermark};

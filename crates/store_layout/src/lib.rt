@@ -1,4 +1,6 @@
 // An empty store laid out: every word of header and records written, the free chain rising.
+#![tactic(auto)]
+
 ghost use Rattle.std.specs.Prelude.{◌≡◌, ◌&&◌, ◌+◌, ◌-◌, ◌≤◌, ◌<◌, leb};
 ghost use Rattle.book.specs.Lists.{rising};
 ghost use Rattle.book.specs.Store.{stored, empty_book, lay_out};

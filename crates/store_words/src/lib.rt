@@ -3,3 +3,5 @@
 //
 //     header: n count next tick | heads: sell stop, sell watermark, buy stop, buy watermark, free
 //     record: kind high low side stop watermark trail quantity seq | next by stop, next by watermark
+
+#![tactic(auto)]

@@ -1,4 +1,6 @@
 // A stop read from its record, and the record of an identity found along the stop chains.
+#![tactic(auto)]
+
 ghost use Rattle.std.specs.Prelude.{◌≡◌, true, List, ℕ, ◌≤◌, length, get_or};
 ghost use Rattle.book.specs.Store.{lookup};
 ghost use Rattle.book.specs.Words.{kind_of, side_from, entry_at, book_of, well_formed};

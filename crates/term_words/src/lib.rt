@@ -1,4 +1,6 @@
 // The words of an identity, a side, terms and a holder: whether each value is known, what they stand for, and back.
+#![tactic(auto)]
+
 ghost use Rattle.std.specs.Prelude.{◌≡◌};
 ghost use Rattle.host_words.specs.Arguments.{id_known, id_of, side_known, terms_known, terms_of, holder_from};
 ghost use Rattle.host_words.specs.Answers.{id_words, terms_words};

@@ -1,5 +1,7 @@
 // Text written into a lent buffer. A writer writes what there is room for and answers the place behind the whole text: past the buffer's end, it had no room, and
 // the caller empties the buffer and writes again.
+#![tactic(auto)]
+
 mod decimal;
 mod text;
 

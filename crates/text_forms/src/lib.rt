@@ -1,4 +1,6 @@
 // Printed lines from forms: a form is text in which '%' and a letter stand for a piece made of the next values.
+#![tactic(auto)]
+
 ghost use Rattle.std.specs.Prelude.{◌+◌, ◌*◌, ◌^◌, ◌≤◌, ◌<◌, length};
 ghost use Rattle.text_buffer.specs.Writing.{Put};
 ghost use Rattle.text_forms.specs.Forms.{form_of};

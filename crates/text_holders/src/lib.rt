@@ -1,4 +1,6 @@
 // A holder of a line: a word of up to 32 bytes as four words.
+#![tactic(auto)]
+
 ghost use Rattle.std.specs.Prelude.{◌≤◌, ◌<◌, ◌≡◌, length, get_or};
 ghost use Rattle.text_holders.specs.Holders.{word_at, holder_between, holder_at, holder_or_none};
 

@@ -1,9 +1,9 @@
 -- Identities as theorems, which the checker computes.
 use mathlib.Core.Path.{◌≡◌, refl}
-use mathlib.Core.List.{List, [], ◌∷◌}
+use mathlib.Core.List.{[], ◌∷◌}
 use Rattle.text_words.specs.Words.{word_start, word_end, run, separates, spells, folded}
 use Rattle.text_numbers.specs.Numbers.{number_between, number_from, with_digit}
-use Rattle.text_numbers.specs.Steps.{bad, got, missing, not_number, too_large}
+use Rattle.text_numbers.specs.Steps.{bad, got, missing, not_number}
 use Rattle.text_identities.specs.Identities.{identity_at, identity_between, uuid_at, uuid_between, patterned, spelled_by, spelled_from, with_character, value_of, place_in, most_of, digits, uuid_pattern, ulid_pattern, not_uuid, not_ulid}
 
 -- "6f9619ff-8b86-D011-b42d-00C04FC964FF 1"

@@ -1,5 +1,5 @@
 -- Laws of texts by a pattern: one turn of the loop over the two, its end, and where a word's step goes on.
-use Prim.Native.Nat.{ℕ, zero, suc, ◌+◌, ◌-◌, ◌*◌, ◌/◌, ◌%◌, ◌≤◌, ◌<◌}
+use Prim.Native.Nat.{ℕ, ◌+◌, ◌-◌, ◌*◌, ◌/◌, ◌%◌, ◌≤◌, ◌<◌}
 use mathlib.Core.Path.{◌≡◌, refl, ◌∙◌}
 use mathlib.Core.List.{List, [], ◌∷◌}
 use native.Mathlib.Numerals.{add-one}
@@ -12,7 +12,7 @@ use Rattle.text_numbers.proofs.Digits.{cond_next, number_next}
 use Rattle.text_numbers.specs.Numbers.{number_between}
 use Rattle.text_numbers.specs.Steps.{bad, got, missing}
 use Rattle.text_numbers.specs.declared.Step.{Step}
-use Rattle.text_identities.specs.Identities.{most_of, with_character, spelled_from, spelled_by, of_spelled, patterned, numbered, kindless, identity_between, uuid_between, uuid_pattern, ulid_pattern, not_uuid, not_ulid}
+use Rattle.text_identities.specs.Identities.{most_of, with_character, spelled_from, spelled_by, patterned, numbered, kindless, identity_between, uuid_between, uuid_pattern, ulid_pattern, not_uuid, not_ulid}
 use Rattle.text_identities.specs.declared.Spelled.{Spelled}
 
 -- the bits that go from the low word to the high one have room there

@@ -1,5 +1,5 @@
 -- Identities: a UUID of 36 characters, a ULID of 26, or a number.
-use Rattle.std.specs.Prelude.{ℕ, zero, suc, ◌+◌, ◌-◌, ◌*◌, ◌/◌, ◌%◌, Bool, true, false, cond, not, List, [], ◌∷◌, eqb, leb, length}
+use Rattle.std.specs.Prelude.{ℕ, ◌+◌, ◌-◌, ◌*◌, ◌/◌, ◌%◌, Bool, true, false, cond, not, List, [], ◌∷◌, eqb, leb, length}
 use Rattle.text_words.specs.Words.{word_start, word_end, between, run, folded}
 use Rattle.text_numbers.specs.Numbers.{number_between}
 use Rattle.text_numbers.specs.Steps.{missing, bad, got}

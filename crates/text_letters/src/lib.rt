@@ -1,4 +1,6 @@
 // Pieces of printed lines by their letters, made of the values from a place on.
+#![tactic(auto)]
+
 ghost use Rattle.std.specs.Prelude.{◌+◌, ◌^◌, ◌≤◌, ◌<◌, ◌≡◌, drop, get_or};
 ghost use Rattle.text_buffer.specs.Writing.{Put};
 ghost use Rattle.text_letters.specs.Letters.{takes as Letters·takes, piece_of};

@@ -1,16 +1,18 @@
 // A text cut into lines: where the next one ends, and where the k-th one stands. Nothing is copied: a line is two places of the text.
+#![tactic(auto)]
+
 ghost use Rattle.std.specs.Prelude.{◌≤◌, ◌<◌, ◌≡◌, ◌∷◌, length, drop};
 ghost use Rattle.text_lines.specs.Lines.{lines_of, line_at, between};
 
 // Where a line ends and where the one behind it begins: the line feed, if there is one, lies between.
-#[derive(Drop)]
+#[derive(Clone, Copy)]
 pub struct Cut {
     pub end: usize,
     pub next: usize,
 }
 
 // Where a line stands.
-#[derive(Drop)]
+#[derive(Clone, Copy)]
 pub struct Line {
     pub start: usize,
     pub end: usize,

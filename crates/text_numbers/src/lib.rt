@@ -1,4 +1,6 @@
 // Decimal numbers of a line's words, and what a word gives.
+#![tactic(auto)]
+
 mod numbers;
 mod runs;
 mod steps;
@@ -8,14 +10,14 @@ pub use runs::{count_at, put_number, put_numbers};
 pub use steps::{bad, got};
 
 // A number that is read so far: 0, or the first fault.
-#[derive(Drop)]
+#[derive(Clone, Copy)]
 pub struct Numeral {
     pub fault: u64,
     pub value: u64,
 }
 
 // What an argument gave: a fault and its column, or 0 and so many values, the first of five; and the place behind the argument.
-#[derive(Drop)]
+#[derive(Clone, Copy)]
 pub struct Step {
     pub fault: u64,
     pub column: usize,

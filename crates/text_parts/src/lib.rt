@@ -1,4 +1,6 @@
 // Forms that are the lines of a text, each found by its place.
+#![tactic(auto)]
+
 ghost use Rattle.std.specs.Prelude.{◌+◌, ◌≤◌, length};
 ghost use Rattle.text_buffer.specs.Writing.{Put};
 ghost use Rattle.text_forms.specs.Forms.{form_of};

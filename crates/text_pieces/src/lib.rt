@@ -1,4 +1,6 @@
 // Pieces of printed lines put into a lent buffer: a side, a price or a limit that may be absent, a holder's name.
+#![tactic(auto)]
+
 mod choices;
 mod holder;
 

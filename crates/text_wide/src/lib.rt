@@ -1,4 +1,6 @@
 // A number of two words, high and low, put in decimal into a lent buffer.
+#![tactic(auto)]
+
 ghost use Rattle.std.specs.Prelude.{◌+◌, ◌*◌, ◌^◌, ◌≤◌, ◌<◌, ◌≡◌};
 ghost use Rattle.text_buffer.specs.Writing.{Put};
 ghost use Rattle.text_wide.specs.Wide.{wide_of};
@@ -6,7 +8,7 @@ ghost use Rattle.text_wide.specs.Wide.{wide_of};
 use text_buffer::{put_decimal, put_digits};
 
 // The quotient of a number of two words by 10^9, and the rest.
-#[derive(Drop)]
+#[derive(Clone, Copy)]
 struct Quotient {
     high: u64,
     low: u64,

@@ -1,11 +1,13 @@
 // The words of a line.
 //
 // A word is two places of the line, and nothing is copied. Where the two are one there is no word, and that is the place where one should begin.
+#![tactic(auto)]
+
 ghost use Rattle.std.specs.Prelude.{◌+◌, ◌≤◌, ◌≡◌, length, drop};
 ghost use Rattle.text_words.specs.Words.{separates as Words·separates, spells as Words·spells, folded as Words·folded, run, word_start, word_end, same_text};
 
 // Where a word begins and ends.
-#[derive(Drop)]
+#[derive(Clone, Copy)]
 pub struct Word {
     pub start: usize,
     pub end: usize,

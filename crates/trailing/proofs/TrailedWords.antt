@@ -53,17 +53,17 @@ module _ (w : List ℕ) (i : ℕ) (price : Price) (t a : StopTerms) (et : t ≡ 
 -- By the stop that a record holds
 
 -- trailing changes the stop and the watermark alone
-words_length_same : (price : Price) (t : StopEntry) (k : ℕ) → k ≢ 4 → k ≢ 5
+trailed_words_same : (price : Price) (t : StopEntry) (k : ℕ) → k ≢ 4 → k ≢ 5
     → data_word (held t) k ≡ data_word (held (trailed price t)) k
 unfolding data_words with_links trailed
-words_length_same price t zero a c = refl
-words_length_same price t (suc zero) a c = refl
-words_length_same price t (suc (suc zero)) a c = refl
-words_length_same price t (suc (suc (suc zero))) a c = rw (trailed_keeps price t).0
-words_length_same price t (suc (suc (suc (suc zero)))) a c = absurd (a refl)
-words_length_same price t (suc (suc (suc (suc (suc zero))))) a c = absurd (c refl)
-words_length_same price t (suc (suc (suc (suc (suc (suc zero)))))) a c = rw (trailed_keeps price t).1
-words_length_same price t (suc (suc (suc (suc (suc (suc (suc k))))))) a c = refl
+trailed_words_same price t zero a c = refl
+trailed_words_same price t (suc zero) a c = refl
+trailed_words_same price t (suc (suc zero)) a c = refl
+trailed_words_same price t (suc (suc (suc zero))) a c = rw (trailed_keeps price t).0
+trailed_words_same price t (suc (suc (suc (suc zero)))) a c = absurd (a refl)
+trailed_words_same price t (suc (suc (suc (suc (suc zero))))) a c = absurd (c refl)
+trailed_words_same price t (suc (suc (suc (suc (suc (suc zero)))))) a c = rw (trailed_keeps price t).1
+trailed_words_same price t (suc (suc (suc (suc (suc (suc (suc k))))))) a c = refl
 
 module _ (n : ℕ) (w : List ℕ) (i : ℕ) (at : Record n w i) (x y : ℕ) where
   abbrev written : List ℕ
@@ -120,7 +120,7 @@ module _ (n : ℕ) (w : List ℕ) (i : ℕ) (at : Record n w i) (x y : ℕ) wher
         other : (k : ℕ) → IsData k → k ≢ 4 → k ≢ 5 → record_word written i k ≡ data_word (held (trailed price t)) k
         other k d a c =
             word-other i k at.least d.inside (λ _. a) (λ _. c)
-            ∙ (rw e at (h.words i k at.least at.most d)) ∙ words_length_same price t k a c
+            ∙ (rw e at (h.words i k at.least at.most d)) ∙ trailed_words_same price t k a c
 
         own : (k : ℕ) → IsData k → record_word written i k ≡ data_word (held (trailed price t)) k
         own k d = cases (eqb k 4)

@@ -1,5 +1,7 @@
 // Which of some trial prices elect a stop: the words of its entry in a ladder. The terms are taken as they stand and do
 // not trail.
+#![tactic(auto)]
+
 ghost use Rattle.std.specs.Prelude.{map, ◌≡◌, ◌≤◌, length};
 ghost use Rattle.book.specs.Ladder.{electing_from, bits_at, ladder_entry, ladder_words};
 ghost use Rattle.book.specs.Sizes.{most_trial_prices};

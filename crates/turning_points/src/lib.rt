@@ -1,5 +1,7 @@
 // The turning points of a run of prices: its first price, each at which it turns, and its last. One pass over the prices:
 // once the next one is read, a price is written or passed over for good.
+#![tactic(auto)]
+
 ghost use Rattle.std.specs.Prelude.{map, ◌≡◌, ◌≤◌, length};
 ghost use Rattle.book.specs.Answers.{told_list};
 ghost use Rattle.book.specs.Calls.{written};

@@ -1,17 +1,1 @@
-pub mod Again
-pub mod Buffers
-pub mod Cells
-pub mod Claims
-pub mod Constants
-pub mod Contracts
-pub mod ListCalls
-pub mod FillLoop
-pub mod Lending
-pub mod Lent
-pub mod Params
-pub mod ThinStores
-pub mod Plain
-pub mod Types
-pub mod WalkSteps
-pub mod WordCalls
 pub mod Written

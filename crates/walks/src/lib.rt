@@ -1,3 +1,5 @@
-// What the hand proofs over lent state share: the laws of a lent struct, of a lent list of records and of an array of
-// words that a function lends to its callees. Functions that lend or are lent structs stand in the crates above; here
+// The laws of lists that the proofs over lent lists of records share: a list that is written from its start, entry by
+// entry, and entries read back from their words. The functions that are lent such lists stand in the crates above; here
 // no code runs.
+
+#![tactic(auto)]

@@ -1,6 +1,8 @@
 // Words of a list, taken one by one and in groups: beyond its last word a list reads as zeros, and nothing is written.
 
 // The word at a place; 0 beyond the last.
+#![tactic(auto)]
+
 pub fn word(n: &[u64], p: usize) -> u64 {
     if p < n.len() {
         return n[p];
@@ -13,6 +15,14 @@ pub fn set(n: &mut [u64], p: usize, v: u64) {
     if p < n.len() {
         n[p] = v;
     }
+}
+
+// The last word of a list; 0 where it has none.
+pub fn last(n: &[u64]) -> u64 {
+    if n.len() == 0 {
+        return 0;
+    }
+    n[n.len() - 1]
 }
 
 // The words from a place on; none beyond the last.

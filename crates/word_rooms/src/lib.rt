@@ -1,5 +1,7 @@
 // The room of a local array of words for a lent list: the least of two lengths, and how many entries an evaluation
 // answers to have listed.
+#![tactic(auto)]
+
 ghost use Rattle.std.specs.Prelude.{min, ◌≡◌};
 ghost use Rattle.book.specs.Answers.{told_counts, told_pass};
 ghost use Rattle.evaluation.specs.Counts.{elected_count, moved_count, pass_count};

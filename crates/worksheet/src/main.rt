@@ -1,23 +1,26 @@
 // The worksheet: reads a sheet from standard input and writes what its lines do to standard output. With the argument
 // `table` it writes tab-separated rows, with `picture` an SVG.
+#![tactic(auto)]
+
 ghost use Rattle.std.specs.Prelude.{◌≡◌, length};
 
 use sheet_desk::{PICTURE, TABLE, TEXT};
 use sheet_lines::names;
 use sheets::{MOST_TEXT, not_read, sheet};
+use std::env::{Env, FillError};
 use text_words::same;
 
 // What no argument asks for.
 const NONE: u64 = 3;
 
 // The first argument, as what is to be written.
-fn asked() -> u64 {
+fn asked(env: &impl Env) -> u64 {
     let mut room = [0u8; 16];
-    let n = os::arg(1, &mut room);
-    if os::arg_count() < 2 {
-        return TEXT;
+    match env.arg(1, &mut room) {
+        Ok(n) => mode_of(&room, n),
+        Err(FillError::NotPresent) => TEXT,
+        Err(FillError::TooLong) => NONE,
     }
-    mode_of(&room, n)
 }
 
 fn mode_of(room: &[u8; 16], n: usize) -> u64 {
@@ -53,8 +56,8 @@ fn room() -> [u8; MOST_TEXT]
     [0; MOST_TEXT]
 }
 
-fn main() {
-    let mode = asked();
+fn main(rt: HostRuntime) {
+    let mode = asked(&rt);
     let mut text = room();
     let got = io::read_full(0, &mut text);
     run(&text[..got], mode);

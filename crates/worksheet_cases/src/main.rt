@@ -1,5 +1,7 @@
 // Stored sheets, one after the other on standard input: a line `=== MODE NAME` begins a sheet, which is run as the
 // worksheet would run it, as text, a table or a picture; what stands before the first such line is not run.
+#![tactic(auto)]
+
 ghost use Rattle.std.specs.Prelude.{◌≡◌, length};
 
 use sheet_desk::{PICTURE, TABLE, TEXT};

@@ -1,0 +1,13 @@
+-- `collect_words::of_list` meets its contract.
+use mathlib.Core.Path.{refl}
+use Rattle.book.specs.Answers.{told_list}
+use Rattle.host_words.specs.Answers.{answered, number}
+use Rattle.collect_words.proofs.of_list.Goals as goal
+
+pub returns-in-Ok : goal.returns-in-Ok
+unfolding number answered told_list
+returns-in-Ok c = rw c.in-Ok.is (refl, refl)
+
+pub returns-in-Err : goal.returns-in-Err
+unfolding number answered told_list
+returns-in-Err c = rw c.in-Err.is (c.number.ensures, refl)

@@ -1,0 +1,25 @@
+-- `evaluate_pass::ask_pass` meets its contract: question by question, after that of the form.
+use mathlib.Core.Path.{refl, sym, ◌∙◌}
+use native.Mathlib.Omega.{arith}
+use Rattle.error.proofs.Questions.{asked_next, asked_first, first_no_lem}
+use Rattle.error.specs.Verdict.{told_verdict}
+use Rattle.book.specs.Calls.{pass_questions}
+use Rattle.store_words.proofs.ChainsOf.{well_formed_room}
+use Rattle.evaluation.proofs.Questions.{count_word}
+use Rattle.evaluate_pass.proofs.ask_pass.Goals as goal
+
+pub returns-then-not-well_formed : goal.returns-then-not-well_formed
+unfolding told_verdict pass_questions
+returns-then-not-well_formed c = sym (first_no_lem _ _ _ (sym c.well_formed-2.ensures ∙ c.if-not-well_formed.true))
+
+pub bounds-s-1 : goal.bounds-s-1
+bounds-s-1 c =
+    omega (arith, (well_formed_room _ (sym c.well_formed-2.ensures ∙ c.if-not-well_formed.false)).room)
+
+pub returns : goal.returns
+unfolding told_verdict pass_questions
+returns c =
+    let formed = sym c.well_formed-2.ensures ∙ c.if-not-well_formed.false in
+    let q14 = asked_next 14 c.ask.ensures refl refl in
+    rw (← count_word _ formed)
+    (asked_next 15 c.ask-2.ensures q14 c.script_formed.ensures ∙ asked_first 1 _ _ formed)

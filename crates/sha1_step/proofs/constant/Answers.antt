@@ -1,0 +1,28 @@
+-- `sha1_step::constant` meets its contract: each way out has the tests that led there.
+use borrow.Author.Tests.{lt-ltb, le-ltb}
+use Rattle.fips180.specs.Fips.{K}
+use Rattle.sha1_step.proofs.constant.Goals as goal
+
+pub returns-then-t-lt20 : goal.returns-then-t-lt20
+unfolding K
+returns-then-t-lt20 c = simp (lt-ltb _ _ c.if-t-lt20.true)
+
+pub returns-then-t-lt40 : goal.returns-then-t-lt40
+unfolding K
+returns-then-t-lt40 c = simp (le-ltb _ _ c.if-t-lt20.false, lt-ltb _ _ c.if-t-lt40.true)
+
+pub returns-then-t-lt60 : goal.returns-then-t-lt60
+unfolding K
+returns-then-t-lt60 c = simp (
+  le-ltb _ _ c.if-t-lt20.false,
+  le-ltb _ _ c.if-t-lt40.false,
+  lt-ltb _ _ c.if-t-lt60.true,
+)
+
+pub returns : goal.returns
+unfolding K
+returns c = simp (
+  le-ltb _ _ c.if-t-lt20.false,
+  le-ltb _ _ c.if-t-lt40.false,
+  le-ltb _ _ c.if-t-lt60.false,
+)

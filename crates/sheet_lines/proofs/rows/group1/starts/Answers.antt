@@ -1,0 +1,9 @@
+-- `sheet_lines::rows::group1::starts` meets its contract: the places are those of the rows.
+use mathlib.Core.Path.{refl}
+use Rattle.text_parts.specs.Parts.{starts}
+use Rattle.sheet_lines.specs.Rows.{rows1}
+use Rattle.sheet_lines.proofs.rows.group1.starts.Goals as goal
+
+pub returns : goal.returns
+unfolding rows1 starts
+returns c = refl

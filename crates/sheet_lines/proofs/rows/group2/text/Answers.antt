@@ -1,0 +1,9 @@
+-- `sheet_lines::rows::group2::text` meets its contract: the text is that of the rows.
+use mathlib.Core.Path.{refl}
+use Rattle.text_parts.specs.Parts.{joined}
+use Rattle.sheet_lines.specs.Rows.{rows2}
+use Rattle.sheet_lines.proofs.rows.group2.text.Goals as goal
+
+pub returns : goal.returns
+unfolding rows2 joined
+returns c = refl

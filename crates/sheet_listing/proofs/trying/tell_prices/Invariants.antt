@@ -1,0 +1,11 @@
+-- `sheet_listing::trying::tell_prices` is safe and ends. The measure is what is left of `prices`.
+use Prim.Native.Nat.{◌≤◌, ◌-◌}
+use lib.ListN.{length}
+use mathlib.Core.Path.{◌≡◌}
+use Rattle.sheet_listing.proofs.trying.tell_prices.Given as goal
+
+abbrev pub invariant-loop-i : goal.invariant-loop-i
+invariant-loop-i l = (l.i ≤ length l.prices) × (length l.desk ≡ length l.initial.desk) × (length l.out ≡ length l.initial.out)
+
+abbrev pub decreases-loop-i : goal.decreases-loop-i
+decreases-loop-i l = length l.prices - l.i

@@ -1,0 +1,69 @@
+-- `store_calls::cancel_pending_stop` meets its contract: each return is a case of the definition.
+use mathlib.Core.Path.{sym, ◌∙◌}
+use native.Mathlib.Omega.{arith}
+use borrow.Author.Rules.{rules}
+use Rattle.book.specs.Words.{book_of}
+use Rattle.store_words.proofs.ChainsOf.{well_formed_room}
+use Rattle.book.specs.Answers.{told_stop}
+use Rattle.pending_stops.proofs.Found.{beyond, well_formed-stored, missing, found, found_record, found_member}
+use Rattle.store_calls.proofs.Cancel.{cancel_unformed, cancel-missing, cancel_refused_as, cancel_done}
+use Rattle.store_calls.proofs.cancel_pending_stop.Goals as goal
+
+pub returns-then-not-well_formed : goal.returns-then-not-well_formed
+unfolding told_stop
+returns-then-not-well_formed c =
+    record {
+      result_value = (cancel_refused_as _ _ 1
+          (cancel_unformed _ _ (sym c.well_formed-2.ensures ∙ c.if-not-well_formed.true))).0;
+      s_after = (cancel_refused_as _ _ 1
+          (cancel_unformed _ _ (sym c.well_formed-2.ensures ∙ c.if-not-well_formed.true))).1;
+    }
+
+pub bounds-s-0 : goal.bounds-s-0
+bounds-s-0 c =
+    let e = sym c.well_formed-2.ensures ∙ c.if-not-well_formed.false in
+    omega (arith, (well_formed_room _ e).room)
+
+pub find_id-i-requires : goal.find_id-i-requires
+find_id-i-requires c =
+    (sym c.well_formed-2.ensures ∙ c.if-not-well_formed.false, search rules)
+
+pub returns-then-i-eq0 : goal.returns-then-i-eq0
+unfolding told_stop
+returns-then-i-eq0 c =
+    record {
+      result_value = (cancel_refused_as _ _ 12
+          (cancel-missing _ _ (sym c.well_formed-2.ensures ∙ c.if-not-well_formed.false)
+          (missing _ _ _ c.find_id-i.ensures c.if-i-eq0.true))).0;
+      s_after = (cancel_refused_as _ _ 12
+          (cancel-missing _ _ (sym c.well_formed-2.ensures ∙ c.if-not-well_formed.false)
+          (missing _ _ _ c.find_id-i.ensures c.if-i-eq0.true))).1;
+    }
+
+pub entry_at-t-requires : goal.entry_at-t-requires
+entry_at-t-requires c =
+    let e = sym c.well_formed-2.ensures ∙ c.if-not-well_formed.false in
+    found_record _ e _ _ (found _ _ _ c.find_id-i.ensures c.if-i-eq0.false)
+
+pub vacate-requires : goal.vacate-requires
+vacate-requires c =
+    let w = c.args.s.now in
+    let e = sym c.well_formed-2.ensures ∙ c.if-not-well_formed.false in (
+      book_of w,
+      beyond w,
+      well_formed-stored w e,
+      found_member w e _ _ (found _ _ _ c.find_id-i.ensures c.if-i-eq0.false) _ c.entry_at-t.ensures,
+    )
+
+pub returns : goal.returns
+unfolding told_stop
+returns c =
+    let w = c.args.s.now in
+    let e = sym c.well_formed-2.ensures ∙ c.if-not-well_formed.false in
+    let f = found _ _ _ c.find_id-i.ensures c.if-i-eq0.false in
+    record {
+      result_value = (cancel_done _ w e _ f _ c.entry_at-t.ensures _
+          (c.vacate.ensures (book_of w) (beyond w) (well_formed-stored w e) (found_member w e _ _ f _ c.entry_at-t.ensures))).0;
+      s_after = (cancel_done _ w e _ f _ c.entry_at-t.ensures _
+          (c.vacate.ensures (book_of w) (beyond w) (well_formed-stored w e) (found_member w e _ _ f _ c.entry_at-t.ensures))).1;
+    }

@@ -1,0 +1,13 @@
+-- `text_buffer::decimal::put_digits` meets its contract: the digits that are left stand before those written.
+use Prim.Native.Nat.{◌-◌, ◌≤◌}
+use mathlib.Core.Path.{◌≡◌}
+use lib.ListN.{length}
+use lib.Seq.{sets}
+use Rattle.text_buffer.specs.Digits.{digits, decimal_letter}
+use Rattle.text_buffer.proofs.decimal.put_digits.Given as goal
+
+abbrev pub invariant-loop-i : goal.invariant-loop-i
+invariant-loop-i l = (l.i ≤ l.k) × (length l.buf ≡ length l.initial.buf) × (sets l.buf l.at (digits decimal_letter 10 l.i l.rest) ≡ sets l.initial.buf l.at (digits decimal_letter 10 l.k l.n))
+
+abbrev pub decreases-loop-i : goal.decreases-loop-i
+decreases-loop-i l = l.i

@@ -1,0 +1,12 @@
+-- `text_words::same` meets its contract: what is left of the two is the same where the whole is.
+use Prim.Native.Nat.{◌-◌, ◌≤◌}
+use mathlib.Core.Path.{◌≡◌}
+use lib.ListN.{length, drop}
+use Rattle.text_words.specs.Words.{same_text}
+use Rattle.text_words.proofs.same.Given as goal
+
+abbrev pub invariant-loop-i : goal.invariant-loop-i
+invariant-loop-i l = (l.i ≤ length l.a) × (l.i ≤ length l.b) × (same_text (drop l.i l.a) (drop l.i l.b) ≡ same_text l.a l.b)
+
+abbrev pub decreases-loop-i : goal.decreases-loop-i
+decreases-loop-i l = length l.a - l.i
