@@ -23,11 +23,10 @@ returns-then-cancels c =
 pub returns-then-not-well_formed : goal.returns-then-not-well_formed
 unfolding told_stop
 returns-then-not-well_formed c =
+    let o = outcome_parts _ _ (update_unformed _ _ _ _ (sym c.well_formed-2.ensures ∙ c.if-not-well_formed.true)) in
     record {
-      result_value = (outcome_parts _ _
-          (update_unformed _ _ _ _ (sym c.well_formed-2.ensures ∙ c.if-not-well_formed.true))).0;
-      s_after = (outcome_parts _ _
-          (update_unformed _ _ _ _ (sym c.well_formed-2.ensures ∙ c.if-not-well_formed.true))).1;
+      result_value = o.0;
+      s_after = o.1;
     }
 
 pub bounds-s-0 : goal.bounds-s-0
@@ -41,11 +40,11 @@ find_id-at-requires c =
 pub returns-then-at-eq0 : goal.returns-then-at-eq0
 unfolding told_stop
 returns-then-at-eq0 c =
+    let o = outcome_parts _ _ (update-missing _ _ _ _ (sym c.well_formed-2.ensures ∙ c.if-not-well_formed.false)
+    (missing _ _ _ c.find_id-at.ensures c.if-at-eq0.true)) in
     record {
-      result_value = (outcome_parts _ _ (update-missing _ _ _ _ (sym c.well_formed-2.ensures ∙ c.if-not-well_formed.false)
-          (missing _ _ _ c.find_id-at.ensures c.if-at-eq0.true))).0;
-      s_after = (outcome_parts _ _ (update-missing _ _ _ _ (sym c.well_formed-2.ensures ∙ c.if-not-well_formed.false)
-          (missing _ _ _ c.find_id-at.ensures c.if-at-eq0.true))).1;
+      result_value = o.0;
+      s_after = o.1;
     }
 
 pub entry_at-t-requires : goal.entry_at-t-requires
@@ -101,11 +100,11 @@ returns-in-Refused c =
     let e = sym c.well_formed-2.ensures ∙ c.if-not-well_formed.false in
     let f = found _ _ _ c.find_id-at.ensures c.if-at-eq0.false in
     let others = sym c.cancels.ensures ∙ c.if-cancels.false in
+    let o = outcome_parts _ _ (update_refused _ _ _ w e _ f others _ c.entry_at-t.ensures _
+    (one_no _ _ _ c.in-Refused.is (c.ask_change-verdict.ensures (book_of w) (next_word_lem w)))) in
     record {
-      result_value = (outcome_parts _ _ (update_refused _ _ _ w e _ f others _ c.entry_at-t.ensures _
-          (one_no _ _ _ c.in-Refused.is (c.ask_change-verdict.ensures (book_of w) (next_word_lem w))))).0;
-      s_after = (outcome_parts _ _ (update_refused _ _ _ w e _ f others _ c.entry_at-t.ensures _
-          (one_no _ _ _ c.in-Refused.is (c.ask_change-verdict.ensures (book_of w) (next_word_lem w))))).1;
+      result_value = o.0;
+      s_after = o.1;
     }
 
 pub returns-in-Accepted : goal.returns-in-Accepted
@@ -118,41 +117,25 @@ returns-in-Accepted c =
     let others = sym c.cancels.ensures ∙ c.if-cancels.false in
     let is = c.changed_entry-new.ensures (book_of w) (next_word_lem w) in
     let after = c.next_after-after.ensures in
+    let done = update_done _ _ _ w e _ f others _ c.entry_at-t.ensures h _ is _ after _
+    (c.change.ensures (book_of w) (beyond w) (well_formed-stored w e) (found_member w e _ _ f _ c.entry_at-t.ensures)
+    (replaced-valid _ _ _ w e _ f others _ c.entry_at-t.ensures h _ is _ after)
+    (replaced_fits _ _ _ w e _ f others _ c.entry_at-t.ensures h _ is _ after (record {
+      high = omega (arith, c.changed_entry-new.type_inv);
+      low = omega (arith, c.changed_entry-new.type_inv);
+      stop = omega (arith, c.changed_entry-new.type_inv);
+      watermark = omega (arith, c.changed_entry-new.type_inv);
+      trail = omega (arith, c.changed_entry-new.type_inv);
+      quantity = omega (arith, c.changed_entry-new.type_inv);
+      seq = omega (arith, c.changed_entry-new.type_inv);
+      holder = record {
+        first = omega (arith, c.changed_entry-new.type_inv);
+        second = omega (arith, c.changed_entry-new.type_inv);
+        third = omega (arith, c.changed_entry-new.type_inv);
+        fourth = omega (arith, c.changed_entry-new.type_inv);
+      };
+    }) (omega (arith, c.next_after-after.type_inv)))) in
     record {
-      result_value = (update_done _ _ _ w e _ f others _ c.entry_at-t.ensures h _ is _ after _
-          (c.change.ensures (book_of w) (beyond w) (well_formed-stored w e) (found_member w e _ _ f _ c.entry_at-t.ensures)
-          (replaced-valid _ _ _ w e _ f others _ c.entry_at-t.ensures h _ is _ after)
-          (replaced_fits _ _ _ w e _ f others _ c.entry_at-t.ensures h _ is _ after (record {
-            high = omega (arith, c.changed_entry-new.type_inv);
-            low = omega (arith, c.changed_entry-new.type_inv);
-            stop = omega (arith, c.changed_entry-new.type_inv);
-            watermark = omega (arith, c.changed_entry-new.type_inv);
-            trail = omega (arith, c.changed_entry-new.type_inv);
-            quantity = omega (arith, c.changed_entry-new.type_inv);
-            seq = omega (arith, c.changed_entry-new.type_inv);
-            holder = record {
-              first = omega (arith, c.changed_entry-new.type_inv);
-              second = omega (arith, c.changed_entry-new.type_inv);
-              third = omega (arith, c.changed_entry-new.type_inv);
-              fourth = omega (arith, c.changed_entry-new.type_inv);
-            };
-          }) (omega (arith, c.next_after-after.type_inv))))).0;
-      s_after = (update_done _ _ _ w e _ f others _ c.entry_at-t.ensures h _ is _ after _
-          (c.change.ensures (book_of w) (beyond w) (well_formed-stored w e) (found_member w e _ _ f _ c.entry_at-t.ensures)
-          (replaced-valid _ _ _ w e _ f others _ c.entry_at-t.ensures h _ is _ after)
-          (replaced_fits _ _ _ w e _ f others _ c.entry_at-t.ensures h _ is _ after (record {
-            high = omega (arith, c.changed_entry-new.type_inv);
-            low = omega (arith, c.changed_entry-new.type_inv);
-            stop = omega (arith, c.changed_entry-new.type_inv);
-            watermark = omega (arith, c.changed_entry-new.type_inv);
-            trail = omega (arith, c.changed_entry-new.type_inv);
-            quantity = omega (arith, c.changed_entry-new.type_inv);
-            seq = omega (arith, c.changed_entry-new.type_inv);
-            holder = record {
-              first = omega (arith, c.changed_entry-new.type_inv);
-              second = omega (arith, c.changed_entry-new.type_inv);
-              third = omega (arith, c.changed_entry-new.type_inv);
-              fourth = omega (arith, c.changed_entry-new.type_inv);
-            };
-          }) (omega (arith, c.next_after-after.type_inv))))).1;
+      result_value = done.0;
+      s_after = done.1;
     }

@@ -12,11 +12,10 @@ use Rattle.store_calls.proofs.cancel_pending_stop.Goals as goal
 pub returns-then-not-well_formed : goal.returns-then-not-well_formed
 unfolding told_stop
 returns-then-not-well_formed c =
+    let o = cancel_refused_as _ _ 1 (cancel_unformed _ _ (sym c.well_formed-2.ensures ∙ c.if-not-well_formed.true)) in
     record {
-      result_value = (cancel_refused_as _ _ 1
-          (cancel_unformed _ _ (sym c.well_formed-2.ensures ∙ c.if-not-well_formed.true))).0;
-      s_after = (cancel_refused_as _ _ 1
-          (cancel_unformed _ _ (sym c.well_formed-2.ensures ∙ c.if-not-well_formed.true))).1;
+      result_value = o.0;
+      s_after = o.1;
     }
 
 pub bounds-s-0 : goal.bounds-s-0
@@ -31,13 +30,11 @@ find_id-i-requires c =
 pub returns-then-i-eq0 : goal.returns-then-i-eq0
 unfolding told_stop
 returns-then-i-eq0 c =
+    let o = cancel_refused_as _ _ 12 (cancel-missing _ _ (sym c.well_formed-2.ensures ∙ c.if-not-well_formed.false)
+    (missing _ _ _ c.find_id-i.ensures c.if-i-eq0.true)) in
     record {
-      result_value = (cancel_refused_as _ _ 12
-          (cancel-missing _ _ (sym c.well_formed-2.ensures ∙ c.if-not-well_formed.false)
-          (missing _ _ _ c.find_id-i.ensures c.if-i-eq0.true))).0;
-      s_after = (cancel_refused_as _ _ 12
-          (cancel-missing _ _ (sym c.well_formed-2.ensures ∙ c.if-not-well_formed.false)
-          (missing _ _ _ c.find_id-i.ensures c.if-i-eq0.true))).1;
+      result_value = o.0;
+      s_after = o.1;
     }
 
 pub entry_at-t-requires : goal.entry_at-t-requires
@@ -61,9 +58,9 @@ returns c =
     let w = c.args.s.now in
     let e = sym c.well_formed-2.ensures ∙ c.if-not-well_formed.false in
     let f = found _ _ _ c.find_id-i.ensures c.if-i-eq0.false in
+    let done = cancel_done _ w e _ f _ c.entry_at-t.ensures _
+    (c.vacate.ensures (book_of w) (beyond w) (well_formed-stored w e) (found_member w e _ _ f _ c.entry_at-t.ensures)) in
     record {
-      result_value = (cancel_done _ w e _ f _ c.entry_at-t.ensures _
-          (c.vacate.ensures (book_of w) (beyond w) (well_formed-stored w e) (found_member w e _ _ f _ c.entry_at-t.ensures))).0;
-      s_after = (cancel_done _ w e _ f _ c.entry_at-t.ensures _
-          (c.vacate.ensures (book_of w) (beyond w) (well_formed-stored w e) (found_member w e _ _ f _ c.entry_at-t.ensures))).1;
+      result_value = done.0;
+      s_after = done.1;
     }

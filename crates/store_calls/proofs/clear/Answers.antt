@@ -9,10 +9,11 @@ use Rattle.store_calls.proofs.clear.Goals as goal
 pub returns-then-not-well_formed : goal.returns-then-not-well_formed
 unfolding told_layout
 returns-then-not-well_formed c =
+    let o = clear_unformed _ _ (sym c.well_formed-2.ensures ∙ c.if-not-well_formed.true) in
     record {
-      answer_value = (clear_unformed _ _ (sym c.well_formed-2.ensures ∙ c.if-not-well_formed.true)).0;
-      path_value = (clear_unformed _ _ (sym c.well_formed-2.ensures ∙ c.if-not-well_formed.true)).1.0;
-      s_after = (clear_unformed _ _ (sym c.well_formed-2.ensures ∙ c.if-not-well_formed.true)).1.1;
+      answer_value = o.0;
+      path_value = o.1.0;
+      s_after = o.1.1;
     }
 
 pub bounds-s-0 : goal.bounds-s-0
@@ -34,11 +35,10 @@ lay_out-requires c =
 pub returns : goal.returns
 unfolding told_layout
 returns c =
+    let done = clear_done _ _ _ _ (sym c.well_formed-2.ensures ∙ c.if-not-well_formed.false) c.lay_out.ensures
+    c.closed-reset.ensures in
     record {
-      answer_value = (clear_done _ _ _ _ (sym c.well_formed-2.ensures ∙ c.if-not-well_formed.false) c.lay_out.ensures
-          c.closed-reset.ensures).0;
-      path_value = (clear_done _ _ _ _ (sym c.well_formed-2.ensures ∙ c.if-not-well_formed.false) c.lay_out.ensures
-          c.closed-reset.ensures).1.0;
-      s_after = (clear_done _ _ _ _ (sym c.well_formed-2.ensures ∙ c.if-not-well_formed.false) c.lay_out.ensures
-          c.closed-reset.ensures).1.1;
+      answer_value = done.0;
+      path_value = done.1.0;
+      s_after = done.1.1;
     }
