@@ -1,4 +1,5 @@
 -- The questions of a call, from what the code asked: an answer about a value that equals the one in question.
+use Rattle.std.specs.Prelude.{is_some}
 use Prim.Native.Nat.{ℕ, ◌-◌}
 use mathlib.Core.Path.{◌≡◌, refl}
 use mathlib.Core.Bool.{true, not}
@@ -11,7 +12,6 @@ use Rattle.pricelevel.specs.declared.Id.{Id}
 use Rattle.book.proofs.WellFormed.{book_of_slots_length}
 use Rattle.book.specs.Book.{Book, pending_count}
 use Rattle.book.specs.Store.{is_pending, lookup}
-use Rattle.book.specs.Lists.{is_some}
 use Rattle.book.specs.Words.{book_of, well_formed}
 use Rattle.pending_stops.proofs.Found.{missing, found, well_formed-stored, count_word}
 use Rattle.store_words.specs.Search.{index_or0}
@@ -24,7 +24,7 @@ unfolding book_of
 next_word_lem w = refl
 
 pub pending-asked : (id : Id) (b : Book) (i : ℕ) → i ≡ index_or0 (lookup id b) → eqb i 0 ≡ not (is_pending id b)
-unfolding is_pending is_some
+unfolding is_pending
 pending-asked id b i e = cases (eqb i 0)
     (λ z. rw (z, missing id b i e (eqb-true i 0 z)))
     (λ z. rw (z, (found id b i e (eqb-false i 0 z)).looked))

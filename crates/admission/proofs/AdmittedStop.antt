@@ -3,7 +3,6 @@ use Prim.Native.Nat.{ℕ}
 use mathlib.Core.Path.{◌≡◌, sym, ap}
 use mathlib.Core.Bool.{Bool, cond}
 use mathlib.Core.List.{List}
-use mathlib.Core.Option.{none, some}
 use lib.Dec.{eqb}
 use lib.ListN.{get_or}
 use Rattle.error.specs.Answer.{refused, accepted}
@@ -17,12 +16,13 @@ use Rattle.book.specs.Path.{closed}
 use Rattle.error.specs.Questions.{first_no, decide}
 use Rattle.book.specs.Store.{PathOutcome, admission_questions, new_entry, admitted, path_after_admission, admit}
 use Rattle.book.specs.Words.{book_of}
-use Rattle.book.specs.declared.LastPrice.{LastPrice}
 use Rattle.book.specs.declared.PrintPath.{PrintPath}
 use Rattle.pending_stops.proofs.Found.{beyond, stored_words, well_formed-stored, count_word}
 use Rattle.pending_stops.specs.Stored.{Stored}
+use Rattle.std.specs.Prelude.{None, Option, Some}
+use Rattle.pricelevel.specs.declared.Price.{Price}
 
-module _ (kill : Bool) (trade : LastPrice) (id : Id) (terms : StopTerms) (quantity : Quantity) (holder : Holder)
+module _ (kill : Bool) (trade : Option Price) (id : Id) (terms : StopTerms) (quantity : Quantity) (holder : Holder)
     (w : List ℕ) (path : PrintPath) where
   abbrev outcome : PathOutcome Seq
   outcome = admit kill trade id terms quantity holder w path
@@ -30,12 +30,12 @@ module _ (kill : Bool) (trade : LastPrice) (id : Id) (terms : StopTerms) (quanti
   abbrev told : ℕ → Seq
   told s = record { 0 = s }
 
-  pub admit_refused : (k : ℕ) → some k ≡ first_no (admission_questions kill trade id terms quantity w)
+  pub admit_refused : (k : ℕ) → Some k ≡ first_no (admission_questions kill trade id terms quantity w)
       → (refused k ≡ outcome.answer) × ((path ≡ outcome.path) × (w ≡ outcome.words))
   unfolding admit decide
   admit_refused k h = (rw (← h), (rw (← h), rw (← h)))
 
-  pub admit_done : none ≡ first_no (admission_questions kill trade id terms quantity w) → (q : Seq)
+  pub admit_done : None ≡ first_no (admission_questions kill trade id terms quantity w) → (q : Seq)
       → q.0 ≡ (book_of w).next
       → (after : PrintPath) → after ≡ cond (eqb (get_or w 1 0) 0) (closed path) path
       → (u : List ℕ) → Stored (get_or w 0 0) u (admitted (new_entry id terms quantity holder (book_of w)) (book_of w)) (beyond w)

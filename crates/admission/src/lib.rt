@@ -8,13 +8,13 @@ ghost use Rattle.book.specs.Path.{closed};
 ghost use Rattle.error.specs.Questions.{first_no};
 ghost use Rattle.book.specs.Store.{within_watermark, not_triggered, admit, admission_questions};
 ghost use Rattle.error.specs.Verdict.{told_verdict};
-ghost use Rattle.book.specs.Answers.{told_admission};
+ghost use Rattle.error.specs.Answer.{told_answer};
 
-use book::{Admission, AdmissionAnswer, LastPrice, PrintPath};
-use error::{Refusal, Verdict};
+use book::{Admission, PrintPath};
+use error::{Ask, Refusal};
 use form::well_formed;
 use pending_stops::occupy;
-use pricelevel::{Holder, Id, Quantity, on_tick};
+use pricelevel::{Holder, Id, Price, Quantity, on_tick};
 use print_path::closed;
 use stop_terms::{StopTerms, is_behind};
 use stored_stops::find_id;
@@ -30,10 +30,10 @@ pub fn within_watermark(terms: StopTerms) -> bool
 }
 
 // Whether the last trade, if there was one, does not elect the stop.
-pub fn not_triggered(terms: StopTerms, trade: LastPrice) -> bool
+pub fn not_triggered(terms: StopTerms, trade: Option<Price>) -> bool
     ensures { result ≡ not_triggered terms trade }
 {
-    let LastPrice::At(price) = trade else {
+    let Some(price) = trade else {
         return true;
     };
     !terms.elected_by(price)
@@ -46,21 +46,21 @@ pub fn not_triggered(terms: StopTerms, trade: LastPrice) -> bool
 fn ask_admission(
     s: &[u64],
     kill: bool,
-    trade: LastPrice,
+    trade: Option<Price>,
     id: Id,
     terms: StopTerms,
     quantity: Quantity,
-) -> Verdict
+) -> Result<(), Refusal>
     ensures { told_verdict result ≡ first_no (admission_questions kill trade id terms quantity s.now) }
 {
     if !well_formed(s) {
-        return Verdict::Refused(Refusal::StoreNotWellFormed);
+        return Err(Refusal::StoreNotWellFormed);
     }
     let n = s[0];
     let pending = s[1];
     let next = s[2];
     let tick = s[3];
-    Verdict::Accepted
+    Ok(())
         .ask(!kill, Refusal::KillSwitchActive)
         .ask(quantity.0 >= 1, Refusal::ZeroQuantity)
         .ask(terms.trail >= 1, Refusal::ZeroTrail)
@@ -89,28 +89,28 @@ pub fn admit_trailing_stop(
     s: &mut [u64],
     path: PrintPath,
     kill: bool,
-    trade: LastPrice,
+    trade: Option<Price>,
     id: Id,
     terms: StopTerms,
     quantity: Quantity,
     holder: Holder,
 ) -> Admission
-    ensures answer_value { told_admission result.answer ≡ (admit kill trade id terms quantity holder s.old path).answer }
+    ensures answer_value { told_answer result.answer ≡ (admit kill trade id terms quantity holder s.old path).answer }
     ensures path_value { result.path ≡ (admit kill trade id terms quantity holder s.old path).path }
     ensures s_after { s.new ≡ (admit kill trade id terms quantity holder s.old path).words }
 {
     let verdict = ask_admission(&s[..], kill, trade, id, terms, quantity);
     match verdict {
-        Verdict::Refused(e) => Admission {
-            answer: AdmissionAnswer::Err(e),
+        Err(e) => Admission {
+            answer: Err(e),
             path: path,
         },
-        Verdict::Accepted => {
+        Ok(()) => {
             let n = s[0];
             let after = path_after(path, s[1]);
             let seq = occupy(s, n, id, terms, quantity, holder);
             Admission {
-                answer: AdmissionAnswer::Ok(seq),
+                answer: Ok(seq),
                 path: after,
             }
         }

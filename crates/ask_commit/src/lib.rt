@@ -3,12 +3,13 @@
 #![tactic(auto)]
 
 ghost use Rattle.std.specs.Prelude.{◌≤◌, map, ◌≡◌, length, take};
-ghost use Rattle.book.specs.Answers.{told_counts};
+ghost use Rattle.error.specs.Answer.{told_answer};
 ghost use Rattle.book.specs.Calls.{written, segment_call};
 ghost use Rattle.book.specs.Commit.{same_words, commit_call};
 ghost use Rattle.book.specs.Entries.{elected_words, moved_words};
 
-use book::{Counts, ElectedWords, EvaluationAnswer, MovedWords, PrintSegment, Settings};
+use book::{Counts, ElectedWords, MovedWords, PrintSegment, Settings};
+use error::Refusal;
 use evaluate_ask::ask_segment;
 use evaluate_commit::commit_segment;
 
@@ -20,11 +21,11 @@ fn commit_written(
     elected: &[ElectedWords],
     moved: &[MovedWords],
     counts: Counts,
-) -> EvaluationAnswer
+) -> Result<Counts, Refusal>
     requires { (counts.elected ≤ length elected.now) × (counts.moves ≤ length moved.now) }
     ensures { let o = commit_call (same_words (take counts.elected elected.now) (take counts.moves moved.now))
         settings prints s.old in
-        (told_counts result ≡ o.answer)
+        (told_answer result ≡ o.answer)
         × (s.new ≡ o.words) }
 {
     let e = counts.elected as usize;
@@ -39,15 +40,15 @@ pub fn ask_and_commit(
     prints: PrintSegment,
     elected: &mut [ElectedWords],
     moved: &mut [MovedWords],
-) -> EvaluationAnswer
+) -> Result<Counts, Refusal>
     ensures { let o = segment_call settings prints s.old (length elected.old) (length moved.old) in
-        (told_counts result ≡ o.answer)
+        (told_answer result ≡ o.answer)
         × (s.new ≡ o.words)
         × (elected.new ≡ written (map elected_words o.elected) elected.old)
         × (moved.new ≡ written (map moved_words o.moved) moved.old) }
 {
     let asked = ask_segment(&s[..], settings, prints, elected, moved);
-    let EvaluationAnswer::Ok(counts) = asked else {
+    let Ok(counts) = asked else {
         return asked;
     };
     commit_written(s, settings, prints, &elected[..], &moved[..], counts)

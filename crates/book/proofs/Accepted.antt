@@ -4,7 +4,6 @@ use Prim.Native.Nat.{ℕ, ◌<◌, ◌^◌}
 use mathlib.Core.Path.{◌≡◌, refl, sym, ◌∙◌}
 use mathlib.Core.Bool.{Bool, true, cond, ◌&&◌}
 use mathlib.Core.List.{List, [], ◌∷◌}
-use mathlib.Core.Option.{Option, none, some}
 use borrow.Author.Tests.{leb-true}
 use borrow.Table.Steps.{cases}
 use lib.Dec.{leb}
@@ -29,10 +28,11 @@ use Rattle.error.specs.Questions.{question, first_no, decide}
 use Rattle.book.specs.Store.{StoreOutcome, PathOutcome, stored_book, empty_book, lay_out, clear, lookup, new_entry, admitted, admit, vacated, cancel_found, cancel, cancels, changed, change_found, update_found, update}
 use Rattle.book.specs.Words.{book_of, well_formed}
 use Rattle.book.specs.Sizes.{most_records, store_length}
-use Rattle.book.specs.declared.LastPrice.{LastPrice}
 use Rattle.book.specs.declared.OrderUpdate.{OrderUpdate}
 use Rattle.book.specs.declared.PrintPath.{PrintPath}
 use Rattle.book.specs.declared.StopEntry.{StopEntry}
+use Rattle.std.specs.Prelude.{None, Option, Some}
+use Rattle.pricelevel.specs.declared.Price.{Price}
 
 abbrev pub Accepted : {B : Type 0} → Answer B → Type 0
 Accepted {B} a = (v : B) × (a ≡ accepted v)
@@ -41,14 +41,14 @@ Accepted {B} a = (v : B) × (a ≡ accepted v)
 pub decide_accepted : {A B : Type 0} (answer : A → Answer B) (Left : A → B → Type 0) (x : Option ℕ) (refusal : ℕ → A)
     (acceptance : A)
     → ((k : ℕ) → answer (refusal k) ≡ refused k)
-    → (x ≡ none → (a : Accepted (answer acceptance)) → Left acceptance a.0)
+    → (x ≡ None → (a : Accepted (answer acceptance)) → Left acceptance a.0)
     → (a : Accepted (answer (decide x refusal acceptance))) → Left (decide x refusal acceptance) a.0
 decide_accepted answer Left x refusal acceptance h g =
     decide_outcomes (λ o. (a : Accepted (answer o)) → Left o a.0) x refusal acceptance
     (λ k a. absurd (accepted_refused a.0 (k, sym a.1 ∙ h k))) (λ e. g e)
 
 -- the one question that the calls on a store begin with
-formed-question : (w : List ℕ) → first_no (question 1 (well_formed w) ∷ []) ≡ none → well_formed w ≡ true
+formed-question : (w : List ℕ) → first_no (question 1 (well_formed w) ∷ []) ≡ None → well_formed w ≡ true
 formed-question w e = (first_no_none _ e).0
 
 -- a book of as many records as the store has takes its place
@@ -115,7 +115,7 @@ new_entry_fits id terms quantity holder b h f = record {
   holder = h.holder;
 }
 
-pub admit-stored : (kill : Bool) (trade : LastPrice) (id : Id) (terms : StopTerms) (quantity : Quantity) (holder : Holder)
+pub admit-stored : (kill : Bool) (trade : Option Price) (id : Id) (terms : StopTerms) (quantity : Quantity) (holder : Holder)
     (w : List ℕ) (path : PrintPath)
     → AdmissionFits id terms quantity holder → Accepted (admit kill trade id terms quantity holder w path).answer
     → Stored (get_or w 0 0)
@@ -137,10 +137,10 @@ admit-stored kill trade id terms quantity holder w path fits =
 
 -- the stop of this identity is pending, and this is left
 abbrev pub FoundAnd : Id → List ℕ → (Pending → Type 0) → Type 0
-FoundAnd id w Left = (p : Pending) × (lookup id (book_of w) ≡ some p) × Left p
+FoundAnd id w Left = (p : Pending) × (lookup id (book_of w) ≡ Some p) × Left p
 
 -- a stop that is found goes out of the book
-vacated-stored : (id : Id) (w : List ℕ) (p : Pending) → well_formed w ≡ true → lookup id (book_of w) ≡ some p
+vacated-stored : (id : Id) (w : List ℕ) (p : Pending) → well_formed w ≡ true → lookup id (book_of w) ≡ Some p
     → Stored (get_or w 0 0) (vacated p.index (book_of w)) w (stored_book (vacated p.index (book_of w)) w)
 vacated-stored id w p formed e =
     let b = book_of w in
@@ -152,8 +152,8 @@ cancel_found-stored : (id : Id) (w : List ℕ) (x : Option Pending) → well_for
     → Accepted (cancel_found x w).answer
     → FoundAnd id w (λ p. Stored (get_or w 0 0) (vacated p.index (book_of w)) w (cancel_found x w).words)
 unfolding cancel_found
-cancel_found-stored id w none formed e a = absurd (accepted_refused a.0 (12, sym a.1))
-cancel_found-stored id w (some p) formed e a = (p, e, vacated-stored id w p formed e)
+cancel_found-stored id w None formed e a = absurd (accepted_refused a.0 (12, sym a.1))
+cancel_found-stored id w (Some p) formed e a = (p, e, vacated-stored id w p formed e)
 
 pub cancel-stored : (id : Id) (w : List ℕ) → Accepted (cancel id w).answer
     → FoundAnd id w (λ p. Stored (get_or w 0 0) (vacated p.index (book_of w)) w (cancel id w).words)
@@ -167,13 +167,13 @@ cancel-stored id w =
 abbrev pub updated : OrderUpdate → Pending → Book → Book
 updated change p b = cond (cancels change) (vacated p.index b) (changed change p b)
 
-update_found-stored : (change : OrderUpdate) (id : Id) (trade : LastPrice) (w : List ℕ) (x : Option Pending)
+update_found-stored : (change : OrderUpdate) (id : Id) (trade : Option Price) (w : List ℕ) (x : Option Pending)
     → UpdateFits change → well_formed w ≡ true
     → lookup id (book_of w) ≡ x → Accepted (update_found change trade x w).answer
     → FoundAnd id w (λ p. Stored (get_or w 0 0) (updated change p (book_of w)) w (update_found change trade x w).words)
 unfolding update_found cancel_found change_found
-update_found-stored change id trade w none fits formed e a = absurd (accepted_refused a.0 (12, sym a.1))
-update_found-stored change id trade w (some p) fits formed e a =
+update_found-stored change id trade w None fits formed e a = absurd (accepted_refused a.0 (12, sym a.1))
+update_found-stored change id trade w (Some p) fits formed e a =
     let b = book_of w in
     let found = (lookup_found id b p e).0 in (
       p,
@@ -190,7 +190,7 @@ update_found-stored change id trade w (some p) fits formed e a =
           (rw f at a))),
     )
 
-pub update-stored : (change : OrderUpdate) (id : Id) (trade : LastPrice) (w : List ℕ) → UpdateFits change
+pub update-stored : (change : OrderUpdate) (id : Id) (trade : Option Price) (w : List ℕ) → UpdateFits change
     → Accepted (update change id trade w).answer
     → FoundAnd id w (λ p. Stored (get_or w 0 0) (updated change p (book_of w)) w (update change id trade w).words)
 unfolding update

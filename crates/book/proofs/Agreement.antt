@@ -14,8 +14,7 @@ use Rattle.book.proofs.TurningPoints.{Straight, straight, turns_from_last}
 use Rattle.book.specs.Book.{Book, entries}
 use Rattle.book.specs.Evaluation.{fill_at, Evaluated, elected_by, point, sells_first, falls_to, and_then, walk_from, last_of, walk}
 use Rattle.book.specs.TurningPoints.{turns_at, turns_from, turning_points}
-use Rattle.book.specs.declared.LastPrice.{LastPrice}
-use Rattle.book.specs.declared.LastPrice.TheVariants as last
+use Rattle.std.specs.Prelude.{Option, Some}
 
 ------------------------------------------------------------------------
 -- Evaluations that agree
@@ -99,20 +98,20 @@ points_merged kill f g h o p q d b op pq w =
 -- Runs
 
 -- from a book settled at o, a price on the straight way to the next does nothing
-passed_over : (kill falls : Bool) (from : LastPrice) (o p q : Price) (ps : List Price) (b : Book) → BookSettled kill o b
+passed_over : (kill falls : Bool) (from : Option Price) (o p q : Price) (ps : List Price) (b : Book) → BookSettled kill o b
     → Straight o p q
     → Agree (walk_from kill falls from (q ∷ ps) b) (walk_from kill falls from (p ∷ q ∷ ps) b)
 unfolding walk_from and_then
 passed_over kill falls from o p q ps b w s =
     let first = sells_first falls from p in
     let one = point kill first p b in
-    let two = point kill (sells_first falls (last.At p) q) q one.book in
-    let after : Book → Evaluated = λ c. walk_from kill falls (last.At q) ps c in
+    let two = point kill (sells_first falls (Some p) q) q one.book in
+    let after : Book → Evaluated = λ c. walk_from kill falls (Some q) ps c in
     agree_sym (agree_trans (agree_assoc one two (after two.book))
     (agree_then after (points_merged kill first _ (sells_first falls from q) o p q s.direction b s.there s.on w)))
 
 -- so the prices of a run that are no turning points do nothing
-turns_agree : (kill falls : Bool) (from : LastPrice) (o h : Price) (ps : List Price) (b : Book) → BookSettled kill o b
+turns_agree : (kill falls : Bool) (from : Option Price) (o h : Price) (ps : List Price) (b : Book) → BookSettled kill o b
     → Agree (walk_from kill falls from (turns_from o h ps) b) (walk_from kill falls from (h ∷ ps) b)
 unfolding turns_from walk_from
 turns_agree kill falls from o h [] b w = agree_refl
@@ -121,11 +120,11 @@ turns_agree kill falls from o h (q ∷ ps) b w =
     let one = point kill first h b in
     cases (turns_at o h q)
     (λ e. rw e (agree-and_then one
-    (turns_agree kill falls (last.At h) h q ps one.book (point-settled kill first h b (settled_trails kill o b w)))))
+    (turns_agree kill falls (Some h) h q ps one.book (point-settled kill first h b (settled_trails kill o b w)))))
     (λ e. rw e (agree_trans (turns_agree kill falls from o q ps b w)
     (passed_over kill falls from o h q ps b w (straight o h q e))))
 
-pub turning_points-walk : (kill : Bool) (prev : LastPrice) (ps : List Price) (b : Book) → All Trails b.slots
+pub turning_points-walk : (kill : Bool) (prev : Option Price) (ps : List Price) (b : Book) → All Trails b.slots
     → Agree (walk kill prev (turning_points ps) b) (walk kill prev ps b)
 unfolding walk walk_from turning_points last_of
 turning_points-walk kill prev [] b h = agree_refl
@@ -135,8 +134,8 @@ turning_points-walk kill prev (p ∷ q ∷ ps) b h =
     let one = point kill (sells_first falls prev p) p b in
     subst (λ (x : Price). Agree
     (and_then (point kill (sells_first (falls_to p x) prev p) p b)
-    (walk_from kill (falls_to p x) (last.At p) (turns_from p q ps) (point kill (sells_first (falls_to p x) prev p) p b).book))
+    (walk_from kill (falls_to p x) (Some p) (turns_from p q ps) (point kill (sells_first (falls_to p x) prev p) p b).book))
     (walk kill prev (p ∷ q ∷ ps) b))
     (sym (turns_from_last p q ps p))
     (agree-and_then one
-    (turns_agree kill falls (last.At p) p q ps one.book (point-settled kill (sells_first falls prev p) p b h)))
+    (turns_agree kill falls (Some p) p q ps one.book (point-settled kill (sells_first falls prev p) p b h)))

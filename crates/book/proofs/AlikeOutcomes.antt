@@ -3,7 +3,6 @@ use Prim.Native.Nat.{ℕ, ◌≤◌, ◌*◌}
 use mathlib.Core.Path.{◌≡◌, refl, sym, ap, ap₂, ◌∙◌}
 use mathlib.Core.Bool.{true}
 use mathlib.Core.List.{List, [], ◌∷◌, map}
-use mathlib.Core.Option.{none}
 use borrow.Author.Tests.{le-leb}
 use lib.ListN.{length, length-map}
 use Rattle.error.specs.Answer.{accepted}
@@ -22,6 +21,7 @@ use Rattle.book.specs.Sizes.{most_prices}
 use Rattle.book.specs.Store.{stored_book}
 use Rattle.book.specs.Words.{book_of, well_formed}
 use Rattle.book.specs.declared.StopEntry.{StopEntry}
+use Rattle.std.specs.Prelude.{None}
 
 ------------------------------------------------------------------------
 -- Entries: all that two evaluations must agree in comes from the stop that left and the book after it
@@ -77,14 +77,14 @@ decided_alike s w o r a = record {
 -- The calls: every question is answered yes
 
 module _ (w : List ℕ) (formed : well_formed w ≡ true) (elected : ℕ) (room : pending_in w ≤ elected) where
-  pub segment_accepted : (moved : ℕ) → 2 * pending_in w ≤ moved → first_no (segment_questions w elected moved) ≡ none
+  pub segment_accepted : (moved : ℕ) → 2 * pending_in w ≤ moved → first_no (segment_questions w elected moved) ≡ None
   unfolding segment_questions
   segment_accepted moved k =
       first_no_of (segment_questions w elected moved)
       (formed, (rw (le-leb (pending_in w) elected room, le-leb (2 * pending_in w) moved k), tt))
 
   pub walk_accepted : (prices : List Price) → 1 ≤ length prices → length prices ≤ most_prices
-      → first_no (walk_questions prices w elected) ≡ none
+      → first_no (walk_questions prices w elected) ≡ None
   unfolding walk_questions
   walk_accepted prices k l =
       first_no_of (walk_questions prices w elected) (

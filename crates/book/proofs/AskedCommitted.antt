@@ -4,7 +4,6 @@ use Prim.Native.Nat.{ℕ}
 use mathlib.Core.Path.{◌≡◌, refl, sym, ap, ◌∙◌}
 use mathlib.Core.Bool.{Bool, true, false}
 use mathlib.Core.List.{List, map}
-use mathlib.Core.Option.{none}
 use native.Mathlib.Omega.{arith}
 use borrow.Table.Steps.{cases}
 use Rattle.error.specs.Answer.{refused, accepted}
@@ -21,6 +20,7 @@ use Rattle.book.specs.Words.{book_of, well_formed}
 use Rattle.book.specs.declared.Elected.{Elected}
 use Rattle.book.specs.declared.Moved.{Moved}
 use Rattle.book.specs.declared.PrintSegment.{PrintSegment}
+use Rattle.std.specs.Prelude.{None}
 
 module _ (s : Settings) (prints : PrintSegment) (w : List ℕ) where
   abbrev after : Evaluated
@@ -48,7 +48,7 @@ module _ (s : Settings) (prints : PrintSegment) (w : List ℕ) where
     commit-other formed e = simp (formed, e)
 
     -- an accepted segment did the same, whatever room its lists had
-    pub commit-segment : (elected moved : ℕ) → none ≡ first_no (segment_questions w elected moved)
+    pub commit-segment : (elected moved : ℕ) → None ≡ first_no (segment_questions w elected moved)
         → same given shifted ≡ true
         → ((commit_call same s prints w).answer ≡ (segment_call s prints w elected moved).answer)
         × ((commit_call same s prints w).words ≡ (segment_call s prints w elected moved).words)
@@ -102,12 +102,12 @@ module _ (s : Settings) (prints : PrintSegment) (w : List ℕ) where
     abbrev asked : AskOutcome
     asked = ask_call s prints w elected moved
 
-    accepted_none : Accepted asked.answer → none ≡ first_no (segment_questions w elected moved)
+    accepted_none : Accepted asked.answer → None ≡ first_no (segment_questions w elected moved)
     unfolding segment_call
     accepted_none = decide_accepted (λ (o : SegmentOutcome). o.answer)
-        (λ o v. none ≡ first_no (segment_questions w elected moved)) _ _ _ (λ k. refl) (λ e a. sym e)
+        (λ o v. None ≡ first_no (segment_questions w elected moved)) _ _ _ (λ k. refl) (λ e a. sym e)
 
-    ask_lists : none ≡ first_no (segment_questions w elected moved) → (asked.elected ≡ given) × (asked.moved ≡ shifted)
+    ask_lists : None ≡ first_no (segment_questions w elected moved) → (asked.elected ≡ given) × (asked.moved ≡ shifted)
     unfolding segment_call decide
     ask_lists h = rw (← h) (refl, refl)
 
@@ -115,7 +115,7 @@ module _ (s : Settings) (prints : PrintSegment) (w : List ℕ) where
         → ((asked.elected ≡ given) × (asked.moved ≡ shifted) → same given shifted ≡ true)
         → AskedCommitted asked (commit_call same s prints w) (segment_call s prints w elected moved)
     committed same a test =
-        let h : none ≡ first_no (segment_questions w elected moved) = accepted_none a in
+        let h : None ≡ first_no (segment_questions w elected moved) = accepted_none a in
         let c = commit-segment same elected moved h (test (ask_lists h)) in
         record { asked_answer = refl; elected = refl; moved = refl; committed_answer = c.0; words = c.1 }
 

@@ -3,7 +3,6 @@ use Prim.Native.Nat.{◌+◌, ◌-◌, ◌≤◌, ◌<◌, ◌^◌}
 use native.Mathlib.Omega.{arith}
 use mathlib.Core.Path.{◌≡◌, refl, sym, ◌∙◌}
 use mathlib.Core.Bool.{true}
-use mathlib.Core.Option.{none}
 use borrow.Author.Tests.{ltb-true, leb-true}
 use borrow.Table.Steps.{cases}
 use lib.ListN.{length, set, length-set}
@@ -20,10 +19,11 @@ use Rattle.book.specs.Book.{Slot, vacant, held, Book, Pending}
 use Rattle.error.specs.Questions.{first_no}
 use Rattle.book.specs.Store.{within_watermark, with_terms, changed_terms, changed_quantity, takes_sequence, change_questions, changed_entry, changed}
 use Rattle.book.specs.Words.{sound_stop}
-use Rattle.book.specs.declared.LastPrice.{LastPrice}
 use Rattle.book.specs.declared.OrderUpdate.{OrderUpdate}
 use Rattle.book.specs.declared.OrderUpdate.TheVariants.{UpdateQuantity, UpdatePrice, UpdatePriceAndQuantity, Replace}
 use Rattle.book.specs.declared.StopEntry.{StopEntry}
+use Rattle.std.specs.Prelude.{None, Option}
+use Rattle.pricelevel.specs.declared.Price.{Price}
 
 -- watermark and trail stay
 pub changed_terms_keeps : (update : OrderUpdate) (t : StopEntry)
@@ -55,8 +55,8 @@ pub record Changeable (update : OrderUpdate) (t : StopEntry) (b : Book) : Type 0
   pub within : within_watermark (changed_terms update t) ≡ true
   pub next_fits : takes_sequence update ≡ true → b.next + 1 < 2 ^ 64
 
-pub change_changeable : (update : OrderUpdate) (trade : LastPrice) (t : StopEntry) (b : Book)
-    → first_no (change_questions update trade t b) ≡ none → Changeable update t b
+pub change_changeable : (update : OrderUpdate) (trade : Option Price) (t : StopEntry) (b : Book)
+    → first_no (change_questions update trade t b) ≡ None → Changeable update t b
 unfolding change_questions
 change_changeable update trade t b e =
     let h = first_no_none (change_questions update trade t b) e in

@@ -1,4 +1,5 @@
 -- Examples of collect and mass cancel, in one table that the checker computes: document 02, One.
+use Rattle.std.specs.Prelude.{is_none}
 use Prim.Native.Nat.{ℕ}
 use mathlib.Core.Path.{◌≡◌, refl}
 use mathlib.Core.List.{List, [], ◌∷◌, ◌++◌, map}
@@ -15,7 +16,7 @@ use Rattle.book.specs.Calls.{pending_in}
 use Rattle.book.specs.BySequence.{pending_stop, admitted_earlier, by_sequence}
 use Rattle.book.specs.Collect.{selects, selected, collect_questions, CollectOutcome, collect, vacated_each, mass_cancel}
 use Rattle.book.specs.Entries.{stop_words}
-use Rattle.book.specs.Lists.{head_or0, is_none, every, filter, same_list, insert_by, sort_by}
+use Rattle.book.specs.Lists.{head_or0, every, filter, same_list, insert_by, sort_by}
 use Rattle.book.specs.Store.{stored, stored_book, vacated}
 use Rattle.book.specs.Words.{next_in, chain_indices, header, record_words, records_words, layout, cell, record_word, kind_of, side_from, entry_at, slot_at, slots_at, free_from, book_of, consistent, sound_stop, differs, all_differ, vacant_indices, valid, are_words, well_formed, data_words, after_by_stop, after_by_watermark, with_links}
 use Rattle.book.specs.declared.Selector.{Selector}
@@ -83,5 +84,5 @@ expected =
     ∷ []
 
 examples : found ≡ expected
-unfolding store earlier later left in_range told lines found expected before lexicographic with_index gather insert_by sort_by filter of_side pending_on chain entries indices pending_count head_or0 is_none every same_list next_in chain_indices header record_words data_words after_by_stop after_by_watermark with_links records_words layout cell record_word kind_of side_from entry_at slot_at slots_at free_from book_of consistent sound_stop differs all_differ vacant_indices valid are_words well_formed same_id same_holder on_tick behind beyond inconsistency_of inconsistency_number pending_in pending_stop admitted_earlier by_sequence selects selected stop_words collect_questions collect vacated_each mass_cancel first_no decide stored stored_book vacated
+unfolding store earlier later left in_range told lines found expected before lexicographic with_index gather insert_by sort_by filter of_side pending_on chain entries indices pending_count head_or0 every same_list next_in chain_indices header record_words data_words after_by_stop after_by_watermark with_links records_words layout cell record_word kind_of side_from entry_at slot_at slots_at free_from book_of consistent sound_stop differs all_differ vacant_indices valid are_words well_formed same_id same_holder on_tick behind beyond inconsistency_of inconsistency_number pending_in pending_stop admitted_earlier by_sequence selects selected stop_words collect_questions collect vacated_each mass_cancel first_no decide stored stored_book vacated
 examples = refl

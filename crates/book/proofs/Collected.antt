@@ -3,7 +3,6 @@ use Prim.Native.Nat.{ℕ, ◌≤◌}
 use mathlib.Core.Path.{◌≡◌, refl, sym, ap, ◌∙◌}
 use mathlib.Core.Bool.{Bool, true}
 use mathlib.Core.List.{List, [], ◌∷◌}
-use mathlib.Core.Option.{Option, none, some}
 use native.Mathlib.Omega.{arith}
 use borrow.Author.Tests.{le-leb}
 use lib.ListN.{length, get_or}
@@ -27,6 +26,7 @@ use Rattle.book.specs.Store.{StoreOutcome, stored, stored_book, vacated, cancel_
 use Rattle.book.specs.Words.{book_of, well_formed}
 use Rattle.book.specs.declared.Selector.{Selector}
 use Rattle.book.specs.declared.StopEntry.{StopEntry}
+use Rattle.std.specs.Prelude.{None, Option, Some}
 
 ------------------------------------------------------------------------
 -- The collected stops are those by sequence that the selector takes, each of another record
@@ -64,8 +64,8 @@ mass_cancel_lists selector w list = go (first_no (collect_questions w list)) ref
     go : (x : Option ℕ) → first_no (collect_questions w list) ≡ x
         → ((mass_cancel selector w list).answer ≡ (collect selector w list).answer)
         × ((mass_cancel selector w list).listed ≡ (collect selector w list).listed)
-    go none e = rw e (refl, refl)
-    go (some k) e = rw e (refl, refl)
+    go None e = rw e (refl, refl)
+    go (Some k) e = rw e (refl, refl)
 
 ------------------------------------------------------------------------
 -- Single cancels, one after the other
@@ -114,7 +114,7 @@ each_cancelled (p ∷ l) w e g =
 -- Of a well-formed store, with a list that is long enough
 
 module _ (selector : Selector) (w : List ℕ) (list : ℕ) (formed : well_formed w ≡ true) (room : pending_in w ≤ list) where
-  asked : first_no (collect_questions w list) ≡ none
+  asked : first_no (collect_questions w list) ≡ None
   unfolding first_no collect_questions
   asked = rw (formed, le-leb (pending_in w) list room)
 

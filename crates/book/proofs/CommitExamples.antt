@@ -10,31 +10,29 @@ use Rattle.pricelevel.specs.Tick.{on_tick}
 use Rattle.pricelevel.specs.declared.Id.{Id}
 use Rattle.pricelevel.specs.declared.IdKind.TheVariants as kind
 use Rattle.pricelevel.specs.declared.Side.TheVariants.{Sell}
-use Rattle.stop_protection.specs.declared.Limit.TheVariants as limit
-use Rattle.stop_protection.specs.declared.Protection.TheVariants as protection
 use Rattle.stop_terms.specs.Terms.{behind, candidate, tightened, ratcheted, trailed_at, elects, elected_at, beyond, inconsistency_of, inconsistency_number}
 use Rattle.book.specs.Book.{before, lexicographic, with_index, gather, of_side, pending_on, chain, indices, pending_count}
 use Rattle.book.specs.Calls.{Counts, Settings, elected_entries, counts_of, pending_in, segment_questions, segment_call}
 use Rattle.book.specs.Commit.{AskOutcome, ask_call, same_moved, same_elected, same_records, same_words, commit_questions, commit_call}
 use Rattle.book.specs.Entries.{elected_words, moved_words}
 use Rattle.book.specs.Evaluation.{trailed, leaves, vacated_if, settled, leaving_on, leaver, elected_on, elected_by, freed, changed_on, mover, moved_entry, moved_on, moved_by, fill_at, point, sells_first, falls_to, and_then, walk_from, segment}
-use Rattle.book.specs.Lists.{head_or0, is_none, every, same_by, same_list, insert_by, sort_by}
+use Rattle.book.specs.Lists.{head_or0, every, same_by, same_list, insert_by, sort_by}
 use Rattle.book.specs.Store.{StoreOutcome, stored, stored_book}
 use Rattle.book.specs.Words.{next_in, chain_indices, header, record_words, records_words, layout, cell, record_word, kind_of, side_from, entry_at, slot_at, slots_at, free_from, book_of, consistent, sound_stop, differs, all_differ, vacant_indices, valid, are_words, well_formed, data_words, after_by_stop, after_by_watermark, with_links}
 use Rattle.book.specs.declared.Elected.{Elected}
-use Rattle.book.specs.declared.LastPrice.TheVariants as last
 use Rattle.book.specs.declared.Moved.{Moved}
 use Rattle.book.specs.declared.PrintSegment.{PrintSegment}
+use Rattle.std.specs.Prelude.{None, is_none}
 
 ------------------------------------------------------------------------
 -- What is asked, and what is committed
 
 settings : Bool → Settings
-settings kill = record { kill = kill; protection = protection.None; namespace = record { high = 0; low = 0 } }
+settings kill = record { kill = kill; protection = None; namespace = record { high = 0; low = 0 } }
 
 -- from 100 to another price
 to : ℕ → PrintSegment
-to p = record { prev = last.None; first = record { 0 = 100 }; last = record { 0 = p } }
+to p = record { prev = None; first = record { 0 = 100 }; last = record { 0 = p } }
 
 seven : Id
 seven = record { kind = kind.Sequential; high = 0; low = 7 }
@@ -51,7 +49,7 @@ some = record {
   quantity = record { 0 = 1 };
   seq = record { 0 = 0 };
   trigger = record { 0 = 94 };
-  limit = limit.None;
+  limit = None;
   child = seven;
   pending = false;
 }
@@ -135,5 +133,5 @@ expected =
     ∷ []
 
 examples : found ≡ expected
-unfolding settings to seven moved_to some sell ratcheted_sell told asked committed commit commit_by_words found expected same_by same_list same_moved same_elected same_records same_words commit_questions commit_call elected_words moved_words before lexicographic with_index gather insert_by sort_by of_side pending_on chain indices pending_count head_or0 is_none every next_in chain_indices header record_words data_words after_by_stop after_by_watermark with_links records_words layout cell record_word kind_of side_from entry_at slot_at slots_at free_from book_of consistent sound_stop differs all_differ vacant_indices valid are_words well_formed same_id on_tick behind beyond inconsistency_of inconsistency_number candidate tightened ratcheted trailed_at elects elected_at elected_entries counts_of pending_in segment_questions segment_call trailed leaves vacated_if settled leaving_on leaver elected_on elected_by freed changed_on mover moved_entry moved_on moved_by fill_at point sells_first falls_to and_then walk_from segment first_no decide stored stored_book
+unfolding settings to seven moved_to some sell ratcheted_sell told asked committed commit commit_by_words found expected same_by same_list same_moved same_elected same_records same_words commit_questions commit_call elected_words moved_words before lexicographic with_index gather insert_by sort_by of_side pending_on chain indices pending_count head_or0 every next_in chain_indices header record_words data_words after_by_stop after_by_watermark with_links records_words layout cell record_word kind_of side_from entry_at slot_at slots_at free_from book_of consistent sound_stop differs all_differ vacant_indices valid are_words well_formed same_id on_tick behind beyond inconsistency_of inconsistency_number candidate tightened ratcheted trailed_at elects elected_at elected_entries counts_of pending_in segment_questions segment_call trailed leaves vacated_if settled leaving_on leaver elected_on elected_by freed changed_on mover moved_entry moved_on moved_by fill_at point sells_first falls_to and_then walk_from segment first_no decide stored stored_book
 examples = refl

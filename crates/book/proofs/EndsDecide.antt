@@ -15,15 +15,15 @@ use Rattle.book.specs.Evaluation.{Evaluated, last_of, segment, walk}
 use Rattle.book.specs.Runs.{Monotone, DecidedByEnds}
 use Rattle.book.specs.Sizes.{most_prices}
 use Rattle.book.specs.Words.{book_of, well_formed}
-use Rattle.book.specs.declared.LastPrice.{LastPrice}
 use Rattle.book.specs.declared.PrintSegment.{PrintSegment}
+use Rattle.std.specs.Prelude.{Option}
 
 -- Demand 3. For every well-formed store, every run of 1 to 4,096 prices that never falls or never rises, prev or none,
 -- collar or none, any namespace, kill switch on or off, and any lent lists as long as the calls demand: neither call is
 -- refused; both answer the same number elected; the elected entries are alike, entry by entry, in identity, side, stop,
 -- quantity, sequence, both words of the limit, child identity and whether that child is pending; and the two stores are
 -- equal in every word.
-pub ends-decide : (s : Settings) (prev : LastPrice) (d : Side) (first : Price) (rest : List Price) (w : List ℕ)
+pub ends-decide : (s : Settings) (prev : Option Price) (d : Side) (first : Price) (rest : List Price) (w : List ℕ)
     (ends moved run : ℕ)
     → well_formed w ≡ true → Monotone d first rest → length (first ∷ rest) ≤ most_prices
     → pending_in w ≤ ends → 2 * pending_in w ≤ moved → pending_in w ≤ run

@@ -25,11 +25,10 @@ use Rattle.book.specs.StepCall.{stepped, step_questions, step_call}
 use Rattle.book.specs.Store.{StoreOutcome, stored_book}
 use Rattle.book.specs.Words.{book_of, well_formed}
 use Rattle.book.specs.declared.Elected.{Elected}
-use Rattle.book.specs.declared.LastPrice.{LastPrice}
-use Rattle.book.specs.declared.LastPrice.TheVariants as last
 use Rattle.book.specs.declared.Moved.{Moved}
 use Rattle.book.specs.declared.PrintPath.{PrintPath}
 use Rattle.book.specs.declared.PrintSegment.{PrintSegment}
+use Rattle.std.specs.Prelude.{None, Option, Some}
 
 -- what w is after an evaluation that leaves the book b and answers that it elected so many
 pub record Lost (b : Book) (elected : ℕ) (w after : List ℕ) : Type 0 where
@@ -58,15 +57,15 @@ points_lost kill w {o = o} r fits formed =
     (points_count kill r)
 
 -- the last trade, if there is one, is below 2^64
-abbrev pub TradeFits : LastPrice → Type 0
-TradeFits last.None = Unit {0}
-TradeFits (last.At p) = PriceFits p
+abbrev pub TradeFits : Option Price → Type 0
+TradeFits None = Unit {0}
+TradeFits (Some p) = PriceFits p
 
-pub segment_of_fits : (path : PrintPath) (trade : LastPrice) → PriceFits path.first → TradeFits trade
+pub segment_of_fits : (path : PrintPath) (trade : Option Price) → PriceFits path.first → TradeFits trade
     → SegmentFits (segment_of path trade)
 unfolding segment_of last_or
-segment_of_fits path last.None h k = record { first = h; last = h }
-segment_of_fits path (last.At p) h k = record { first = h; last = k }
+segment_of_fits path None h k = record { first = h; last = h }
+segment_of_fits path (Some p) h k = record { first = h; last = k }
 
 -- a run that does nothing
 idle_lost : (w : List ℕ) → well_formed w ≡ true → (v : PassCounts) → v.elected ≡ 0 → (a : Accepted (accepted v))
@@ -87,7 +86,7 @@ either_lost w true x y c d f g = f
 either_lost w false x y c d f g = g
 
 -- the book after the run over path and store: as it was where nothing is pending or the path is closed
-abbrev pub run_book : Settings → List ℕ → LastPrice → List ℕ → PrintPath → Book
+abbrev pub run_book : Settings → List ℕ → Option Price → List ℕ → PrintPath → Book
 run_book s script trade w path =
     cond (eqb (pending_in w) 0 || not path.«open») (book_of w) (pass s script (segment_of path trade) (book_of w)).book
 
@@ -112,7 +111,7 @@ module _ (s : Settings) (w : List ℕ) (elected : ℕ) where
       (λ e. points_lost s.kill w (segment_points s.kill prints (book_of w)) (segment_prices_fits prints fits)
       (first_no_none (commit_questions same s prints w) e).0)
 
-  pub step_call_lost : (falls : Bool) (from : LastPrice) (price : Price) (moved : ℕ) → PriceFits price
+  pub step_call_lost : (falls : Bool) (from : Option Price) (price : Price) (moved : ℕ) → PriceFits price
       → (a : Accepted (step_call s falls from price w elected moved).answer)
       → Lost (stepped s.kill falls from price (book_of w)).book a.0.elected w
       (step_call s falls from price w elected moved).words
@@ -123,7 +122,7 @@ module _ (s : Settings) (w : List ℕ) (elected : ℕ) where
       (λ e. points_lost s.kill w (point_points s.kill (sells_first falls from price) price (book_of w)) (fits, tt)
       (first_no_none (step_questions w elected moved) e).0)
 
-  pub walk_call_lost : (prev : LastPrice) (prices : List Price) → All PriceFits prices
+  pub walk_call_lost : (prev : Option Price) (prices : List Price) → All PriceFits prices
       → (a : Accepted (walk_call s prev prices w elected).answer)
       → Lost (walk s.kill prev prices (book_of w)).book a.0.elected w (walk_call s prev prices w elected).words
   unfolding walk_call walk_questions
@@ -153,7 +152,7 @@ module _ (s : Settings) (w : List ℕ) (elected : ℕ) where
         (λ o v. Lost (pass s script prints (book_of w)).book v.elected w o.words) _ _ _ (λ k. refl)
         (λ e. passed_lost prints fits (first_no_none (pass_questions script w elected) e).0)
 
-    pub run_call_lost : (trade : LastPrice) (path : PrintPath) → PriceFits path.first → TradeFits trade
+    pub run_call_lost : (trade : Option Price) (path : PrintPath) → PriceFits path.first → TradeFits trade
         → (a : Accepted (run_call s script trade w elected path).answer)
         → Lost (run_book s script trade w path) a.0.elected w (run_call s script trade w elected path).words
     unfolding run_call run_over pass_questions

@@ -4,7 +4,6 @@ use native.Mathlib.Omega.{arith}
 use mathlib.Core.Path.{◌≡◌, refl}
 use mathlib.Core.Bool.{true}
 use mathlib.Core.List.{List, [], ◌∷◌}
-use mathlib.Core.Option.{Option, none, some}
 use borrow.Table.Steps.{cases}
 use lib.ListN.{length, get_or}
 use Rattle.error.specs.Answer.{accepted}
@@ -17,6 +16,7 @@ use Rattle.book.specs.Book.{Slot, vacant, held, Pending}
 use Rattle.book.specs.Store.{lookup, entry_of, find}
 use Rattle.book.specs.Words.{book_of, well_formed}
 use Rattle.book.specs.declared.StopEntry.{StopEntry}
+use Rattle.std.specs.Prelude.{None, Option, Some}
 
 -- a record of the store holds the stop
 pub record HeldIn (w : List ℕ) (t : StopEntry) : Type 0 where
@@ -24,14 +24,14 @@ pub record HeldIn (w : List ℕ) (t : StopEntry) : Type 0 where
   pub from : 1 ≤ index
   pub there : get_or (book_of w).slots (index - 1) vacant ≡ held t
 
-pub find_held : (id : Id) (w : List ℕ) (t : StopEntry) → find id w ≡ accepted (some t) → HeldIn w t
+pub find_held : (id : Id) (w : List ℕ) (t : StopEntry) → find id w ≡ accepted (Some t) → HeldIn w t
 unfolding find decide first_no entry_of
 find_held id w t e = cases (well_formed w) (λ f. go (lookup id (book_of w)) refl (rw f at e))
     (λ f. let g = rw f at e in let z : ◌≡◌ {A = ℕ} 0 1 = cc in absurd (omega arith))
   where
-    go : (o : Option Pending) → lookup id (book_of w) ≡ o → accepted (entry_of o) ≡ accepted (some t) → HeldIn w t
-    go none q h = let z : ◌≡◌ {A = ℕ} 0 1 = cc in absurd (omega arith)
-    go (some p) q h =
+    go : (o : Option Pending) → lookup id (book_of w) ≡ o → accepted (entry_of o) ≡ accepted (Some t) → HeldIn w t
+    go None q h = let z : ◌≡◌ {A = ℕ} 0 1 = cc in absurd (omega arith)
+    go (Some p) q h =
         let f = (lookup_found id (book_of w) p q).0 in
         let same : p.entry ≡ t = cc in
         record { index = p.index; from = f.from; there = rw same at f.there }
@@ -42,7 +42,7 @@ held-within [] k t e = let z : ◌≡◌ {A = ℕ} 0 1 = cc in absurd (omega ari
 held-within (s ∷ ss) zero t e = omega arith
 held-within (s ∷ ss) (suc k) t e = omega (arith, held-within ss k t e)
 
-pub held-find : (w : List ℕ) (t : StopEntry) → well_formed w ≡ true → HeldIn w t → find t.id w ≡ accepted (some t)
+pub held-find : (w : List ℕ) (t : StopEntry) → well_formed w ≡ true → HeldIn w t → find t.id w ≡ accepted (Some t)
 unfolding find decide first_no entry_of
 held-find w t formed h = rw (
   formed,

@@ -3,7 +3,6 @@ use Prim.Native.Nat.{ℕ}
 use mathlib.Core.Path.{◌≡◌, refl, sym, ap, ◌∙◌}
 use mathlib.Core.Bool.{Bool, not, ◌||◌}
 use mathlib.Core.List.{List, []}
-use mathlib.Core.Option.{Option, none, some}
 use borrow.Table.Steps.{cases}
 use lib.Dec.{eqb}
 use lib.ListN.{length, length-map}
@@ -23,10 +22,10 @@ use Rattle.book.specs.StepCall.{stepped, step_questions, step_call}
 use Rattle.book.specs.Store.{stored_book}
 use Rattle.book.specs.Words.{book_of}
 use Rattle.book.specs.declared.Elected.{Elected}
-use Rattle.book.specs.declared.LastPrice.{LastPrice}
 use Rattle.book.specs.declared.Moved.{Moved}
 use Rattle.book.specs.declared.PrintPath.{PrintPath}
 use Rattle.book.specs.declared.PrintSegment.{PrintSegment}
+use Rattle.std.specs.Prelude.{None, Option, Some}
 
 -- an accepted segment or walk
 abbrev evaluation : {X : Type 0} → Settings → (Evaluated → X) → Evaluated → List ℕ → Outcome Counts X
@@ -102,8 +101,8 @@ unfolding decide
 decide_same show {f} {g} {a} {b} p q e refusal acceptance = rw e (go (first_no q))
   where
     go : (x : Option ℕ) → SameButHolders (show (decide x f a)) (show (decide x g b))
-    go none = acceptance
-    go (some k) = refusal k
+    go None = acceptance
+    go (Some k) = refusal k
 
 ------------------------------------------------------------------------
 -- The calls
@@ -130,7 +129,7 @@ module _ (s : Settings) (elected : ℕ) where
       (rw (f, g, o.elected, o.besides)) (λ k. untouched h (refused k) tt)
       (record { answers = o.answers; elected = refl; besides = refl; stores = o.stores })
 
-  pub step_call_uninfluenced : (falls : Bool) (from : LastPrice) (price : Price) (moved : ℕ)
+  pub step_call_uninfluenced : (falls : Bool) (from : Option Price) (price : Price) (moved : ℕ)
       → Uninfluenced (λ w. segment_outcome (step_call s falls from price w elected moved))
   unfolding step_call step_questions
   step_call_uninfluenced falls from price moved w v f g h =
@@ -139,7 +138,7 @@ module _ (s : Settings) (elected : ℕ) where
       (evaluation_same h s (λ o. o.moved) (stepped s.kill falls from price) (λ o. refl)
       (point_holderless s.kill (sells_first falls from price) price))
 
-  pub walk_call_uninfluenced : (prev : LastPrice) (prices : List Price)
+  pub walk_call_uninfluenced : (prev : Option Price) (prices : List Price)
       → Uninfluenced (λ w. list_outcome (walk_call s prev prices w elected))
   unfolding walk_call walk_questions
   walk_call_uninfluenced prev prices w v f g h =
@@ -154,7 +153,7 @@ module _ (s : Settings) (elected : ℕ) where
       decide_same (λ (o : PassOutcome). list_outcome o) (pass_questions script w elected) (pass_questions script v elected)
       (rw (f, g, pending_in_alike h)) (λ k. untouched h (refused k) tt) (passed_same h s script prints)
 
-  pub run_call_uninfluenced : (script : List ℕ) (trade : LastPrice) (path : PrintPath)
+  pub run_call_uninfluenced : (script : List ℕ) (trade : Option Price) (path : PrintPath)
       → Uninfluenced (λ w. run_outcome (run_call s script trade w elected path))
   unfolding run_call run_over pass_questions
   run_call_uninfluenced script trade path w v f g h =

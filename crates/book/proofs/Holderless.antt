@@ -3,8 +3,6 @@
 use Prim.Native.Nat.{ℕ, suc}
 use mathlib.Core.Path.{◌≡◌, refl, sym, ap}
 use mathlib.Core.List.{List, [], ◌∷◌, ◌++◌, map, map-append, map-map}
-use mathlib.Core.Option
-use mathlib.Core.Option.{Option, none, some}
 use borrow.Table.Steps.{cases}
 use Rattle.pricelevel.specs.Holder.{holder_of}
 use Rattle.pricelevel.specs.Identity.{same_id}
@@ -14,10 +12,10 @@ use Rattle.pricelevel.specs.declared.Side.TheVariants.{Buy, Sell}
 use Rattle.book.proofs.Lists.{all_of}
 use Rattle.book.proofs.Sort.{map-sort_by}
 use Rattle.book.specs.Book.{Slot, vacant, held, Book, Chain, ByStop, ByWatermark, chain_side, side_of, before, Pending, with_index, gather, earlier_in, sort, of_side, pending_on, chain, indices, pending_count}
-use Rattle.book.specs.Lists.{is_some}
 use Rattle.book.specs.Store.{named, lookup, is_pending}
 use Rattle.book.specs.Words.{chain_indices}
 use Rattle.book.specs.declared.StopEntry.{StopEntry}
+use Rattle.std.specs.Prelude.{None, Option, Some, option_map, is_some}
 
 -- all but the holder of a stop, of a record, of a pending stop, of a book
 abbrev pub holderless : StopEntry → StopEntry
@@ -45,13 +43,13 @@ before_holderless (ByWatermark Buy) x y = refl
 
 -- a choice of stops that goes by all but the holder
 abbrev pub Blind : (Slot → Option StopEntry) → Type 0
-Blind choice = (s : Slot) → choice (holderless_slot s) ≡ Option.map holderless (choice s)
+Blind choice = (s : Slot) → choice (holderless_slot s) ≡ option_map holderless (choice s)
 
 with_index_holderless : (i : ℕ) (x : Option StopEntry) (l : List Pending)
-    → with_index i (Option.map holderless x) (map holderless_pending l) ≡ map holderless_pending (with_index i x l)
+    → with_index i (option_map holderless x) (map holderless_pending l) ≡ map holderless_pending (with_index i x l)
 unfolding with_index
-with_index_holderless i none l = refl
-with_index_holderless i (some t) l = refl
+with_index_holderless i None l = refl
+with_index_holderless i (Some t) l = refl
 
 module _ (choice : Slot → Option StopEntry) (blind : Blind choice) where
   gather_holderless : (i : ℕ) (ss : List Slot)
@@ -69,7 +67,7 @@ module _ (choice : Slot → Option StopEntry) (blind : Blind choice) where
       (λ p q _ _. sym (before_holderless c p.entry q.entry)) (gather choice 1 ss)
       (all_of (λ p. tt) (gather choice 1 ss))))
 
-pub of_side_holderless : (d e : Side) (t : StopEntry) → of_side d e (holderless t) ≡ Option.map holderless (of_side d e t)
+pub of_side_holderless : (d e : Side) (t : StopEntry) → of_side d e (holderless t) ≡ option_map holderless (of_side d e t)
 unfolding of_side
 of_side_holderless Sell Sell t = refl
 of_side_holderless Sell Buy t = refl
@@ -100,7 +98,7 @@ pending_count_holderless (vacant ∷ ss) = pending_count_holderless ss
 pending_count_holderless (held t ∷ ss) = ap suc (pending_count_holderless ss)
 
 named_holderless : (id : Id) (l : List Pending) → is_some (named id (map holderless_pending l)) ≡ is_some (named id l)
-unfolding named is_some
+unfolding named
 named_holderless id [] = refl
 named_holderless id (p ∷ l) = cases (same_id id p.entry.id) (λ e. rw e) (λ e. rw e (named_holderless id l))
 

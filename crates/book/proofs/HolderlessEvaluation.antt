@@ -3,7 +3,6 @@ use Prim.Native.Nat.{ℕ, zero, suc}
 use mathlib.Core.Path.{◌≡◌, refl, sym, ◌∙◌}
 use mathlib.Core.Bool.{Bool, true, false}
 use mathlib.Core.List.{List, [], ◌∷◌, map, map-append, map-map}
-use mathlib.Core.Option
 use lib.Dec.{eqb}
 use Rattle.pricelevel.specs.declared.Price.{Price}
 use Rattle.pricelevel.specs.declared.Side.{Side}
@@ -14,10 +13,9 @@ use Rattle.book.proofs.Holderless.{holderless, holderless_slot, holderless_pendi
 use Rattle.book.specs.Book.{Slot, vacant, held, Book, ByStop, ByWatermark, side_of, stop_of, Pending, gather, sort, pending_count}
 use Rattle.book.specs.Calls.{Settings, elected_entry, elected_entries, Passed, evaluated_in, with_segment, pass_from, pass}
 use Rattle.book.specs.Evaluation.{trailed, leaves, vacated_if, settled, leaving_on, leaver, elected_on, elected_by, freed, changed_on, mover, moved_entry, moved_on, moved_by, Fill, fill_at, Evaluated, point, sells_first, falls_to, and_then, walk_from, segment, last_of, walk}
-use Rattle.book.specs.declared.LastPrice.{LastPrice}
-use Rattle.book.specs.declared.LastPrice.TheVariants as last
 use Rattle.book.specs.declared.PrintSegment.{PrintSegment}
 use Rattle.book.specs.declared.StopEntry.{StopEntry}
+use Rattle.std.specs.Prelude.{Option, Some, option_map}
 
 -- all but the holders of what left, and of what an evaluation did
 abbrev pub holderless_fill : Fill → Fill
@@ -39,13 +37,13 @@ vacated_if_holderless true t = refl
 vacated_if_holderless false t = refl
 
 leaving_on_holderless : (e : Bool) (d : Side) (t : StopEntry)
-    → leaving_on e d (holderless t) ≡ Option.map holderless (leaving_on e d t)
+    → leaving_on e d (holderless t) ≡ option_map holderless (leaving_on e d t)
 unfolding leaving_on
 leaving_on_holderless true d t = of_side_holderless d (side_of t) t
 leaving_on_holderless false d t = refl
 
 changed_on_holderless : (e : Bool) (d : Side) (t : StopEntry)
-    → changed_on e d (holderless t) ≡ Option.map holderless (changed_on e d t)
+    → changed_on e d (holderless t) ≡ option_map holderless (changed_on e d t)
 unfolding changed_on
 changed_on_holderless true d t = refl
 changed_on_holderless false d t = of_side_holderless d (side_of t) t
@@ -125,21 +123,21 @@ and_then_holderless : (o r : Evaluated)
 unfolding and_then
 and_then_holderless o r = rw (map-append holderless_fill o.fills r.fills)
 
-walk_from_holderless : (kill falls : Bool) (from : LastPrice) (ps : List Price) (b : Book)
+walk_from_holderless : (kill falls : Bool) (from : Option Price) (ps : List Price) (b : Book)
     → walk_from kill falls from ps (holderless_book b) ≡ holderless_evaluated (walk_from kill falls from ps b)
 unfolding walk_from
 walk_from_holderless kill falls from [] b = refl
 walk_from_holderless kill falls from (p ∷ ps) b =
     let o = point kill (sells_first falls from p) p b in
-    rw (point_holderless kill (sells_first falls from p) p b, walk_from_holderless kill falls (last.At p) ps o.book)
-    (and_then_holderless o (walk_from kill falls (last.At p) ps o.book))
+    rw (point_holderless kill (sells_first falls from p) p b, walk_from_holderless kill falls (Some p) ps o.book)
+    (and_then_holderless o (walk_from kill falls (Some p) ps o.book))
 
 pub segment_holderless : (kill : Bool) (s : PrintSegment) (b : Book)
     → segment kill s (holderless_book b) ≡ holderless_evaluated (segment kill s b)
 unfolding segment
 segment_holderless kill s b = walk_from_holderless kill (falls_to s.first s.last) s.prev _ b
 
-pub walk_holderless : (kill : Bool) (prev : LastPrice) (ps : List Price) (b : Book)
+pub walk_holderless : (kill : Bool) (prev : Option Price) (ps : List Price) (b : Book)
     → walk kill prev ps (holderless_book b) ≡ holderless_evaluated (walk kill prev ps b)
 unfolding walk
 walk_holderless kill prev [] b = walk_from_holderless kill true prev [] b

@@ -14,9 +14,9 @@ use Rattle.book.specs.Calls.{Settings, segment_call, walk_call, pass_call, run_c
 use Rattle.book.specs.Lists.{All}
 use Rattle.book.specs.StepCall.{step_call}
 use Rattle.book.specs.Words.{well_formed}
-use Rattle.book.specs.declared.LastPrice.{LastPrice}
 use Rattle.book.specs.declared.PrintPath.{PrintPath}
 use Rattle.book.specs.declared.PrintSegment.{PrintSegment}
+use Rattle.std.specs.Prelude.{Option}
 
 -- a refused call alters no word
 kept-formed : {B : Type 0} {w v : List ℕ} (a : Answer B) → well_formed w ≡ true → (Refused a → v ≡ w)
@@ -32,14 +32,14 @@ module _ (s : Settings) (w : List ℕ) (elected : ℕ) (formed : well_formed w �
       (λ r. (segment_call_refused s w elected prints moved r).0)
       (λ a. (segment_call_lost s w elected prints moved fits a).stored.formed)
 
-  pub step_call-formed : (falls : Bool) (from : LastPrice) (price : Price) (moved : ℕ) → PriceFits price
+  pub step_call-formed : (falls : Bool) (from : Option Price) (price : Price) (moved : ℕ) → PriceFits price
       → well_formed (step_call s falls from price w elected moved).words ≡ true
   step_call-formed falls from price moved fits =
       kept-formed (step_call s falls from price w elected moved).answer formed
       (λ r. (step_call_refused s w elected falls from price moved r).0)
       (λ a. (step_call_lost s w elected falls from price moved fits a).stored.formed)
 
-  pub walk_call-formed : (prev : LastPrice) (prices : List Price) → All PriceFits prices
+  pub walk_call-formed : (prev : Option Price) (prices : List Price) → All PriceFits prices
       → well_formed (walk_call s prev prices w elected).words ≡ true
   walk_call-formed prev prices fits =
       kept-formed (walk_call s prev prices w elected).answer formed
@@ -54,7 +54,7 @@ module _ (s : Settings) (w : List ℕ) (elected : ℕ) (formed : well_formed w �
         (λ r. (pass_call_refused s w elected script prints r).0)
         (λ a. (pass_call_lost s w elected script words prints fits a).stored.formed)
 
-    pub run_call-formed : (trade : LastPrice) (path : PrintPath) → PriceFits path.first → TradeFits trade
+    pub run_call-formed : (trade : Option Price) (path : PrintPath) → PriceFits path.first → TradeFits trade
         → well_formed (run_call s script trade w elected path).words ≡ true
     run_call-formed trade path first last =
         kept-formed (run_call s script trade w elected path).answer formed

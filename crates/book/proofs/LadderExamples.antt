@@ -1,4 +1,5 @@
 -- Examples of the ladder, in one table that the checker computes: document 02, Three.
+use Rattle.std.specs.Prelude.{is_none}
 use Prim.Native.Nat.{ℕ, ◌-◌, ◌^◌}
 use mathlib.Core.Path.{◌≡◌, refl}
 use mathlib.Core.List.{List, [], ◌∷◌, ◌++◌, map}
@@ -13,7 +14,7 @@ use Rattle.book.specs.Book.{before, lexicographic, with_index, gather, of_side, 
 use Rattle.book.specs.BySequence.{pending_stop, admitted_earlier, by_sequence}
 use Rattle.book.specs.Calls.{pending_in}
 use Rattle.book.specs.Ladder.{electing_from, bits_at, ladder_entry, ladder_words, ladder_questions, LadderOutcome, ladder}
-use Rattle.book.specs.Lists.{head_or0, is_none, every, same_list, insert_by, sort_by}
+use Rattle.book.specs.Lists.{head_or0, every, same_list, insert_by, sort_by}
 use Rattle.book.specs.Words.{next_in, chain_indices, header, record_words, records_words, layout, cell, record_word, kind_of, side_from, entry_at, slot_at, slots_at, free_from, book_of, consistent, sound_stop, differs, all_differ, vacant_indices, valid, are_words, well_formed, data_words, after_by_stop, after_by_watermark, with_links}
 
 -- sells at 98 and 95
@@ -76,5 +77,5 @@ expected =
     ∷ []
 
 examples : found ≡ expected
-unfolding sells both told lines tried found expected before lexicographic with_index gather insert_by sort_by of_side pending_on chain entries indices pending_count head_or0 is_none every same_list next_in chain_indices header record_words data_words after_by_stop after_by_watermark with_links records_words layout cell record_word kind_of side_from entry_at slot_at slots_at free_from book_of consistent sound_stop differs all_differ vacant_indices valid are_words well_formed same_id on_tick behind beyond elects elected_at inconsistency_of inconsistency_number pending_in pending_stop admitted_earlier by_sequence electing_from bits_at ladder_entry ladder_words ladder_questions ladder first_no decide
+unfolding sells both told lines tried found expected before lexicographic with_index gather insert_by sort_by of_side pending_on chain entries indices pending_count head_or0 every same_list next_in chain_indices header record_words data_words after_by_stop after_by_watermark with_links records_words layout cell record_word kind_of side_from entry_at slot_at slots_at free_from book_of consistent sound_stop differs all_differ vacant_indices valid are_words well_formed same_id on_tick behind beyond elects elected_at inconsistency_of inconsistency_number pending_in pending_stop admitted_earlier by_sequence electing_from bits_at ladder_entry ladder_words ladder_questions ladder first_no decide
 examples = refl

@@ -4,7 +4,6 @@ use Prim.Native.Nat.{ℕ, ◌-◌, ◌*◌, ◌≤◌, ◌<◌}
 use mathlib.Core.Path.{◌≡◌, refl, sym, ap, ◌∙◌}
 use mathlib.Core.Bool.{Bool, true, false, false≢true}
 use mathlib.Core.List.{List, [], ◌∷◌, map, append-nil}
-use mathlib.Core.Option.{none, some}
 use native.Mathlib.Omega.{arith}
 use borrow.Author.Tests.{eq-eqb, le-leb}
 use borrow.Table.Steps.{cases}
@@ -37,8 +36,8 @@ use Rattle.book.specs.Sizes.{most_trial_prices}
 use Rattle.book.specs.Valid.{Valid}
 use Rattle.book.specs.Words.{book_of, sound_stop, well_formed}
 use Rattle.book.specs.declared.Elected.{Elected}
-use Rattle.book.specs.declared.LastPrice.{LastPrice}
 use Rattle.book.specs.declared.StopEntry.{StopEntry}
+use Rattle.std.specs.Prelude.{None, Option, Some}
 
 ------------------------------------------------------------------------
 -- The entries of a point's elected name an identity, or none of these has it
@@ -88,7 +87,7 @@ module _ (p : Price) (b : Book) (v : Valid b) (q : Pending) (h : InBook b.slots 
       cases (same_id own r.entry.id)
       (λ f.
       let i : own ≡ o.before.id = same_id_equal own r.entry.id f ∙ same in
-      let found : some q ≡ some u = sym (lookup_is b q v h) ∙ (rw i (lookup_is b u v there)) in
+      let found : Some q ≡ Some u = sym (lookup_is b q v h) ∙ (rw i (lookup_is b u v there)) in
       let itself : q.entry ≡ o.before = cc in
       absurd (false≢true (sym e ∙ (sym leaves_as_stands ∙ rw itself o.leaving))))
       (λ f. f)
@@ -156,7 +155,7 @@ module _ (prices : List Price) (w : List ℕ) (formed : well_formed w ≡ true) 
       (λ p q there. point-names p b (well_formed-valid w formed) q there first s)
 
   -- the calls that are one point: a walk over the price alone, and a segment from it to itself
-  module _ (s : Settings) (off : s.kill ≡ false) (prev : LastPrice) (elected : ℕ) (room : pending_in w ≤ elected) where
+  module _ (s : Settings) (off : s.kill ≡ false) (prev : Option Price) (elected : ℕ) (room : pending_in w ≤ elected) where
     pub ladder-walk : All (BitsTell prices (λ p. (walk_call s prev (p ∷ []) w elected).elected)) stops
     unfolding walk_call walk_questions first_no decide elected_entries elected_entry
     ladder-walk =

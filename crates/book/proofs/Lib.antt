@@ -2,7 +2,6 @@ pub mod Accepted
 pub mod Agreement
 pub mod AlikeOutcomes
 pub mod AlikeStores
-pub mod Answers
 pub mod AskedCommitted
 pub mod BySequence
 pub mod ChainIndices

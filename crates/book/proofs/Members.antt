@@ -5,7 +5,6 @@ use native.Mathlib.Omega.{arith}
 use mathlib.Core.Path.{◌≡◌, refl, sym}
 use mathlib.Core.Logic.{◌≢◌}
 use mathlib.Core.List.{List, [], ◌∷◌}
-use mathlib.Core.Option.{Option, none, some}
 use lib.ListN.{length, get_or}
 use Rattle.pricelevel.specs.declared.Side.{Side}
 use Rattle.pricelevel.specs.declared.Side.TheVariants.{Buy, Sell}
@@ -19,6 +18,7 @@ use Rattle.book.specs.Lists.{All}
 use Rattle.book.specs.Valid.{Valid}
 use Rattle.book.specs.Words.{chain_indices}
 use Rattle.book.specs.declared.StopEntry.{StopEntry}
+use Rattle.std.specs.Prelude.{None, Option, Some}
 
 -- record i is one that a chain is to hold
 abbrev pub Belongs : StoreChain → List Slot → ℕ → Type 0
@@ -28,11 +28,11 @@ Belongs Free ss i = VacantFrom 1 ss i
 ------------------------------------------------------------------------
 -- The stops of a side
 
-pending_on_side : (side : Side) (t : StopEntry) → pending_on side (held t) ≡ some t → side ≡ side_of t
+pending_on_side : (side : Side) (t : StopEntry) → pending_on side (held t) ≡ Some t → side ≡ side_of t
 unfolding pending_on of_side
 pending_on_side side t e = go side (side_of t) e
   where
-    go : (a b : Side) → of_side a b t ≡ some t → a ≡ b
+    go : (a b : Side) → of_side a b t ≡ Some t → a ≡ b
     go Sell Sell e = refl
     go Sell Buy e = let z : ◌≡◌ {A = ℕ} 0 1 = cc in absurd (omega arith)
     go Buy Sell e = let z : ◌≡◌ {A = ℕ} 0 1 = cc in absurd (omega arith)
@@ -106,8 +106,8 @@ gather-other choice i (s ∷ ss) =
     go : (o : Option StopEntry) → All (λ q. i ≢ q.index) (gather choice (suc i) ss)
         → Pairwise Other (gather choice (suc i) ss)
         → Pairwise Other (with_index i o (gather choice (suc i) ss))
-    go none a rest = rest
-    go (some t) a rest = (a, rest)
+    go None a rest = rest
+    go (Some t) a rest = (a, rest)
 
 indices_distinct : (l : List Pending) → Pairwise Other l → Distinct (indices l)
 unfolding indices

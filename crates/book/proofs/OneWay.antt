@@ -22,8 +22,8 @@ use Rattle.book.specs.Evaluation.{point, sells_first, falls_to, walk_from, segme
 use Rattle.book.specs.Lists.{All}
 use Rattle.book.specs.Runs.{Goes, Monotone}
 use Rattle.book.specs.TurningPoints.{turns_from, turning_points}
-use Rattle.book.specs.declared.LastPrice.{LastPrice}
 use Rattle.book.specs.declared.PrintSegment.{PrintSegment}
+use Rattle.std.specs.Prelude.{Option}
 
 ------------------------------------------------------------------------
 -- Its turning points
@@ -67,7 +67,7 @@ segment-ends kill s b h =
     (λ e. rw e agree_refl)
 
 -- a run that never falls, or never rises, has its ends for turning points
-pub segment-walk : (kill : Bool) (prev : LastPrice) (d : Side) (first : Price) (rest : List Price) (b : Book)
+pub segment-walk : (kill : Bool) (prev : Option Price) (d : Side) (first : Price) (rest : List Price) (b : Book)
     → All Trails b.slots
     → Monotone d first rest
     → Agree (segment kill (record {

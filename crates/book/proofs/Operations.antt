@@ -4,7 +4,6 @@ use native.Mathlib.Omega.{arith}
 use mathlib.Core.Path.{◌≡◌, refl, ap}
 use mathlib.Core.Bool.{Bool, true}
 use mathlib.Core.List.{List, [], ◌∷◌}
-use mathlib.Core.Option.{none}
 use borrow.Author.Tests.{ltb-true, leb-true, not-true}
 use lib.ListN.{length, set, drop, replicate, length-set, length-replicate}
 use Rattle.pricelevel.specs.declared.Holder.{Holder}
@@ -25,8 +24,9 @@ use Rattle.error.specs.Questions.{first_no}
 use Rattle.book.specs.Store.{empty_book, admission_questions, admitted, new_entry, vacated}
 use Rattle.book.specs.Words.{sound_stop, all_differ, vacant_indices, sort_rising, book_of, well_formed}
 use Rattle.book.specs.Sizes.{most_records}
-use Rattle.book.specs.declared.LastPrice.{LastPrice}
 use Rattle.book.specs.declared.StopEntry.{StopEntry}
+use Rattle.std.specs.Prelude.{None, Option}
+use Rattle.pricelevel.specs.declared.Price.{Price}
 
 ------------------------------------------------------------------------
 -- One record is set
@@ -135,14 +135,14 @@ admitted_count t b v room =
     (omega (arith, rw r.vacant_there at (pending_count_set b.slots r.place (held t) r.inside)))
 
 -- where every question of an admission is answered yes
-pub admission-formed : (kill : Bool) (trade : LastPrice) (id : Id) (terms : StopTerms) (quantity : Quantity) (w : List ℕ)
-    → first_no (admission_questions kill trade id terms quantity w) ≡ none → well_formed w ≡ true
+pub admission-formed : (kill : Bool) (trade : Option Price) (id : Id) (terms : StopTerms) (quantity : Quantity) (w : List ℕ)
+    → first_no (admission_questions kill trade id terms quantity w) ≡ None → well_formed w ≡ true
 unfolding admission_questions
 admission-formed kill trade id terms quantity w e = (first_no_none (admission_questions kill trade id terms quantity w) e).0
 
-pub admission_admissible : (kill : Bool) (trade : LastPrice) (id : Id) (terms : StopTerms) (quantity : Quantity) (holder : Holder)
+pub admission_admissible : (kill : Bool) (trade : Option Price) (id : Id) (terms : StopTerms) (quantity : Quantity) (holder : Holder)
     (w : List ℕ)
-    → first_no (admission_questions kill trade id terms quantity w) ≡ none
+    → first_no (admission_questions kill trade id terms quantity w) ≡ None
     → (well_formed w ≡ true) × Admissible (new_entry id terms quantity holder (book_of w)) (book_of w)
     × ((book_of w).next + 1 < 2 ^ 64)
 unfolding admission_questions new_entry

@@ -2,7 +2,6 @@
 use Prim.Native.Nat.{ℕ, ◌+◌, ◌<◌}
 use mathlib.Core.Path.{◌≡◌, refl}
 use mathlib.Core.Bool.{Bool, true, false}
-use mathlib.Core.Option.{some}
 use lib.ListN.{length, get_or}
 use Rattle.pricelevel.specs.declared.Price.{Price}
 use Rattle.pricelevel.specs.declared.Side.{Side}
@@ -14,6 +13,7 @@ use Rattle.book.specs.Book.{vacant, held, Book, ByStop, Pending, side_of, gather
 use Rattle.book.specs.Evaluation.{trailed, leaves, leaving_on, leaver, elected_on, elected_by}
 use Rattle.book.specs.Lists.{All}
 use Rattle.book.specs.declared.StopEntry.{StopEntry}
+use Rattle.std.specs.Prelude.{Some}
 
 module _ (kill : Bool) (p : Price) (b : Book) where
   -- it left its record, as a stop of a side
@@ -38,7 +38,7 @@ module _ (kill : Bool) (p : Price) (b : Book) where
   -- what holds of all that are elected holds of a stop that leaves its record
   module _ (P : Pending → Type 0) (k : ℕ) (t : StopEntry) (inside : k < length b.slots)
       (there : get_or b.slots k vacant ≡ held t) (leaving : leaves kill p (trailed p t) ≡ true) where
-    leaver_own : (d : Side) → d ≡ side_of (trailed p t) → leaver kill p d (held t) ≡ some (trailed p t)
+    leaver_own : (d : Side) → d ≡ side_of (trailed p t) → leaver kill p d (held t) ≡ Some (trailed p t)
     unfolding leaver leaving_on of_side
     leaver_own Sell e = rw (leaving, ← e)
     leaver_own Buy e = rw (leaving, ← e)

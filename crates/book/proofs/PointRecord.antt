@@ -4,7 +4,6 @@ use Prim.Native.Nat.{ℕ, ◌<◌, ◌+◌, ◌^◌}
 use mathlib.Core.Path.{◌≡◌, refl, sym}
 use mathlib.Core.Bool.{Bool, true, false}
 use mathlib.Core.List.{List, [], ◌∷◌, map}
-use mathlib.Core.Option.{none, some}
 use native.Mathlib.Omega.{arith}
 use borrow.Author.Tests.{not-true}
 use borrow.Table.Steps.{cases}
@@ -26,6 +25,7 @@ use Rattle.book.specs.Lists.{every}
 use Rattle.book.specs.Store.{within_watermark}
 use Rattle.book.specs.Words.{consistent, sound_stop, differs, all_differ}
 use Rattle.book.specs.declared.StopEntry.{StopEntry}
+use Rattle.std.specs.Prelude.{None, Some}
 
 -- what holds of a free record, and of a stop after trailing, holds of a record after a point
 pub settled_keeps : (P : Slot → Type 0) (kill : Bool) (price : Price) (s : Slot) → P vacant
@@ -64,7 +64,7 @@ pub record LeavesAs (kill : Bool) (price : Price) (s : Slot) (u : StopEntry) : T
   pub after : u ≡ trailed price before
 
 pub leaver-leaves : (kill : Bool) (price : Price) (side : Side) (s : Slot) (u : StopEntry)
-    → leaver kill price side s ≡ some u
+    → leaver kill price side s ≡ Some u
     → LeavesAs kill price s u
 unfolding leaver leaving_on
 leaver-leaves kill price side vacant u e = let z : ◌≡◌ {A = ℕ} 0 1 = cc in absurd (omega arith)
@@ -75,7 +75,7 @@ leaver-leaves kill price side (held t) u e = cases (leaves kill price (trailed p
       leaving = f;
       after = sym (of_side_some side (side_of (trailed price t)) (trailed price t) u (rw f at e));
     })
-    (λ f. let g : none ≡ some u = rw f at e in let z : ◌≡◌ {A = ℕ} 0 1 = cc in absurd (omega arith))
+    (λ f. let g : None ≡ Some u = rw f at e in let z : ◌≡◌ {A = ℕ} 0 1 = cc in absurd (omega arith))
 
 ------------------------------------------------------------------------
 -- Soundness

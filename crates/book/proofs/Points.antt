@@ -6,7 +6,6 @@ use mathlib.Core.Path.{◌≡◌, refl, ◌∙◌}
 use mathlib.Core.Bool.{Bool, true, false}
 use mathlib.Core.List.{List, [], ◌∷◌, ◌++◌, map, append-nil, map-map, map-id}
 use mathlib.Core.Logic.{◌⊎◌, inl, inr}
-use mathlib.Core.Option.{Option, none}
 use borrow.Table.Steps.{cases}
 use Rattle.pricelevel.specs.declared.Price.{Price}
 use Rattle.pricelevel.specs.declared.Side.{Side}
@@ -20,6 +19,7 @@ use Rattle.book.specs.Book.{Slot, vacant, held, Book, ByStop, side_of, watermark
 use Rattle.book.specs.Evaluation.{trailed, leaves, vacated_if, settled, leaving_on, leaver, elected_on, elected_by, freed, point}
 use Rattle.book.specs.declared.StopEntry.{StopEntry}
 use Rattle.book.specs.Lists.{sort_by, All}
+use Rattle.std.specs.Prelude.{None, Option}
 
 ------------------------------------------------------------------------
 -- A record at two prices
@@ -100,7 +100,7 @@ merged kill o p q d h k (held t) w = elim (run_along_or_against d (side_of t) o.
 ]
 
 -- a settled record gives up no stop of the side that the run takes along
-same_side_or_none : (d s : Side) (t : StopEntry) → (s ≡ d) ⊎ (of_side d s t ≡ none)
+same_side_or_none : (d s : Side) (t : StopEntry) → (s ≡ d) ⊎ (of_side d s t ≡ None)
 unfolding of_side
 same_side_or_none Sell Sell t = inl refl
 same_side_or_none Sell Buy t = inr refl
@@ -109,7 +109,7 @@ same_side_or_none Buy Buy t = inl refl
 
 leaver_none : (kill : Bool) (o q : Price) (d : Side) → behind d q.0 o.0 ≡ false → (s : Slot)
     → SlotSettled kill o s
-    → leaver kill q d s ≡ none
+    → leaver kill q d s ≡ None
 unfolding leaver leaving_on
 leaver_none kill o q d h vacant w = refl
 leaver_none kill o q d h (held t) w = elim (same_side_or_none d (side_of (trailed q t)) (trailed q t)) [
@@ -120,7 +120,7 @@ leaver_none kill o q d h (held t) w = elim (same_side_or_none d (side_of (traile
 ------------------------------------------------------------------------
 -- Over the records
 
-pub gather_none : (choice : Slot → Option StopEntry) (i : ℕ) (ss : List Slot) → All (λ s. choice s ≡ none) ss
+pub gather_none : (choice : Slot → Option StopEntry) (i : ℕ) (ss : List Slot) → All (λ s. choice s ≡ None) ss
     → gather choice i ss ≡ []
 unfolding gather with_index
 gather_none choice i [] h = refl

@@ -3,7 +3,6 @@ use Prim.Native.Nat.{ℕ}
 use mathlib.Core.Path.{◌≡◌, refl}
 use mathlib.Core.Bool.{Bool, not, ◌||◌}
 use mathlib.Core.List.{List, []}
-use mathlib.Core.Option.{Option, none, some}
 use native.Mathlib.Omega.{arith}
 use borrow.Table.Steps.{cases}
 use lib.Dec.{eqb}
@@ -26,13 +25,13 @@ use Rattle.book.specs.Store.{StoreOutcome, PathOutcome, lay_out, clear, admit, c
 use Rattle.book.specs.TurningPoints.{TurningPointsOutcome, turning_points_call}
 use Rattle.book.specs.Words.{book_of}
 use Rattle.book.specs.declared.Elected.{Elected}
-use Rattle.book.specs.declared.LastPrice.{LastPrice}
 use Rattle.book.specs.declared.Moved.{Moved}
 use Rattle.book.specs.declared.OrderUpdate.{OrderUpdate}
 use Rattle.book.specs.declared.PrintPath.{PrintPath}
 use Rattle.book.specs.declared.PrintSegment.{PrintSegment}
 use Rattle.book.specs.declared.Selector.{Selector}
 use Rattle.book.specs.declared.StopEntry.{StopEntry}
+use Rattle.std.specs.Prelude.{None, Option, Some}
 
 -- an outcome is refused
 abbrev pub Refused : {B : Type 0} → Answer B → Type 0
@@ -65,7 +64,7 @@ clear_refused w path r =
     decide_refused (λ (o : PathOutcome (Unit {0})). o.answer) (λ o. LeftAs w path o) _ _ _ r (λ k. (refl, refl))
     (λ q. absurd (accepted_refused _ q))
 
-pub admit_refused : (kill : Bool) (trade : LastPrice) (id : Id) (terms : StopTerms) (quantity : Quantity) (holder : Holder) (w : List ℕ)
+pub admit_refused : (kill : Bool) (trade : Option Price) (id : Id) (terms : StopTerms) (quantity : Quantity) (holder : Holder) (w : List ℕ)
     (path : PrintPath)
     → Refused (admit kill trade id terms quantity holder w path).answer
     → LeftAs w path (admit kill trade id terms quantity holder w path)
@@ -76,8 +75,8 @@ admit_refused kill trade id terms quantity holder w path r =
 
 cancel_found_refused : (x : Option Pending) (w : List ℕ) → Refused (cancel_found x w).answer → (cancel_found x w).words ≡ w
 unfolding cancel_found
-cancel_found_refused none w r = refl
-cancel_found_refused (some p) w r = absurd (accepted_refused _ r)
+cancel_found_refused None w r = refl
+cancel_found_refused (Some p) w r = absurd (accepted_refused _ r)
 
 pub cancel_refused : (id : Id) (w : List ℕ) → Refused (cancel id w).answer → (cancel id w).words ≡ w
 unfolding cancel
@@ -85,16 +84,16 @@ cancel_refused id w r =
     decide_refused (λ (o : StoreOutcome StopEntry). o.answer) (λ o. o.words ≡ w) _ _ _ r (λ k. refl)
     (cancel_found_refused (lookup id (book_of w)) w)
 
-update_found_refused : (change : OrderUpdate) (trade : LastPrice) (x : Option Pending) (w : List ℕ)
+update_found_refused : (change : OrderUpdate) (trade : Option Price) (x : Option Pending) (w : List ℕ)
     → Refused (update_found change trade x w).answer → (update_found change trade x w).words ≡ w
 unfolding update_found change_found
-update_found_refused change trade none w r = refl
-update_found_refused change trade (some p) w r = cases (cancels change)
-    (λ e. rw e (cancel_found_refused (some p) w (rw e at r)))
+update_found_refused change trade None w r = refl
+update_found_refused change trade (Some p) w r = cases (cancels change)
+    (λ e. rw e (cancel_found_refused (Some p) w (rw e at r)))
     (λ e. rw e (decide_refused (λ (o : StoreOutcome StopEntry). o.answer) (λ o. o.words ≡ w) _ _ _ (rw e at r)
     (λ k. refl) (λ q. absurd (accepted_refused _ q))))
 
-pub update_refused : (change : OrderUpdate) (id : Id) (trade : LastPrice) (w : List ℕ)
+pub update_refused : (change : OrderUpdate) (id : Id) (trade : Option Price) (w : List ℕ)
     → Refused (update change id trade w).answer → (update change id trade w).words ≡ w
 unfolding update
 update_refused change id trade w r =
@@ -150,7 +149,7 @@ module _ (s : Settings) (w : List ℕ) (elected : ℕ) where
       decide_refused (λ (o : StoreOutcome Counts). o.answer) (λ o. o.words ≡ w) _ _ _ r (λ k. refl)
       (λ q. absurd (accepted_refused _ q))
 
-  pub step_call_refused : (falls : Bool) (from : LastPrice) (price : Price) (moved : ℕ)
+  pub step_call_refused : (falls : Bool) (from : Option Price) (price : Price) (moved : ℕ)
       → Refused (step_call s falls from price w elected moved).answer
       → ((step_call s falls from price w elected moved).words ≡ w)
       × ((step_call s falls from price w elected moved).elected ≡ [])
@@ -165,7 +164,7 @@ module _ (s : Settings) (w : List ℕ) (elected : ℕ) where
   abbrev ListLeft : {A : Type 0} → ListOutcome A → Type 0
   ListLeft o = (o.words ≡ w) × (o.elected ≡ [])
 
-  pub walk_call_refused : (prev : LastPrice) (prices : List Price) → Refused (walk_call s prev prices w elected).answer
+  pub walk_call_refused : (prev : Option Price) (prices : List Price) → Refused (walk_call s prev prices w elected).answer
       → ListLeft (walk_call s prev prices w elected)
   unfolding walk_call
   walk_call_refused prev prices r =
@@ -183,7 +182,7 @@ module _ (s : Settings) (w : List ℕ) (elected : ℕ) where
   abbrev RunLeft : PrintPath → RunOutcome → Type 0
   RunLeft path o = (o.words ≡ w) × (o.elected ≡ []) × (o.path ≡ path)
 
-  pub run_call_refused : (script : List ℕ) (trade : LastPrice) (path : PrintPath)
+  pub run_call_refused : (script : List ℕ) (trade : Option Price) (path : PrintPath)
       → Refused (run_call s script trade w elected path).answer
       → RunLeft path (run_call s script trade w elected path)
   unfolding run_call run_over passed

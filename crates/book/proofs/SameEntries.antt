@@ -12,8 +12,6 @@ use Rattle.pricelevel.specs.Identity.{kind_number}
 use Rattle.pricelevel.specs.Side.{side_number}
 use Rattle.pricelevel.specs.declared.Side.{Side}
 use Rattle.stop_protection.specs.Collar.{limit_present, limit_high, limit_low}
-use Rattle.stop_protection.specs.declared.Limit.{Limit}
-use Rattle.stop_protection.specs.declared.Limit.TheVariants as limit
 use Rattle.book.proofs.Lists.{same_by_equal, same_by_refl, same_list_equal, same_list_refl}
 use Rattle.book.proofs.ReadBack.{side_from-number}
 use Rattle.book.specs.Commit.{same_moved, same_elected, same_records, same_words}
@@ -22,6 +20,8 @@ use Rattle.book.specs.Lists.{same_by, same_list}
 use Rattle.book.specs.Words.{side_from}
 use Rattle.book.specs.declared.Elected.{Elected}
 use Rattle.book.specs.declared.Moved.{Moved}
+use Rattle.std.specs.Prelude.{None, Option, Some}
+use Rattle.stop_protection.specs.declared.LimitPrice.{LimitPrice}
 
 ------------------------------------------------------------------------
 -- Entries
@@ -29,13 +29,13 @@ use Rattle.book.specs.declared.Moved.{Moved}
 side_number_injective : (a b : Side) → side_number a ≡ side_number b → a ≡ b
 side_number_injective a b e = sym (side_from-number a) ∙ ap side_from e ∙ side_from-number b
 
-limit_injective : (a b : Limit) → limit_present a ≡ limit_present b → limit_high a ≡ limit_high b → limit_low a ≡ limit_low b
+limit_injective : (a b : Option LimitPrice) → limit_present a ≡ limit_present b → limit_high a ≡ limit_high b → limit_low a ≡ limit_low b
     → a ≡ b
 unfolding limit_present limit_high limit_low
-limit_injective limit.None limit.None p h l = refl
-limit_injective limit.None (limit.At y) p h l = absurd (omega arith)
-limit_injective (limit.At x) limit.None p h l = absurd (omega arith)
-limit_injective (limit.At x) (limit.At y) p h l = λ i. limit.At (record { 0 = record { high = h i; low = l i } })
+limit_injective None None p h l = refl
+limit_injective None (Some y) p h l = absurd (omega arith)
+limit_injective (Some x) None p h l = absurd (omega arith)
+limit_injective (Some x) (Some y) p h l = λ i. Some (record { 0 = record { high = h i; low = l i } })
 
 flag_injective : (a b : Bool) → cond {A = ℕ} a 1 0 ≡ cond b 1 0 → a ≡ b
 flag_injective true true e = refl

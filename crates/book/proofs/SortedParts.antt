@@ -5,7 +5,6 @@ use Prim.Native.Nat.{ℕ, suc}
 use mathlib.Core.Path.{◌≡◌, refl}
 use mathlib.Core.Bool.{true, false}
 use mathlib.Core.List.{List, [], ◌∷◌, ◌++◌, map}
-use mathlib.Core.Option.{Option, none, some}
 use native.Mathlib.Omega.{arith}
 use borrow.Author.Tests.{ne_eqb}
 use borrow.Table.Steps.{cases}
@@ -19,12 +18,13 @@ use Rattle.book.proofs.Sort.{insert, insert_by_all}
 use Rattle.book.specs.Book.{Slot, Chain, ByStop, stop_of, seq_of, lexicographic, before, Pending, with_index, gather, sort, of_side, earlier_in}
 use Rattle.book.specs.declared.StopEntry.{StopEntry}
 use Rattle.book.specs.Lists.{All, sort_by, insert_by}
+use Rattle.std.specs.Prelude.{None, Option, Some}
 
 -- what a record gives up at first, what it gives up then, and what it gives up at once
 pub data Part (Early Late : StopEntry → Type 0) : Option StopEntry → Option StopEntry → Option StopEntry → Type 0 where
-  early : (x : StopEntry) → Early x → Part Early Late (some x) none (some x)
-  late : (x : StopEntry) → Late x → Part Early Late none (some x) (some x)
-  never : Part Early Late none none none
+  early : (x : StopEntry) → Early x → Part Early Late (Some x) None (Some x)
+  late : (x : StopEntry) → Late x → Part Early Late None (Some x) (Some x)
+  never : Part Early Late None None None
 
 pub record Apart (c : Chain) (Early Late : StopEntry → Type 0) : Type 0 where
   pub first : (x y : StopEntry) → Early x → Late y → before c x y ≡ true
@@ -115,7 +115,7 @@ stops-apart d p = record {
 }
 
 pub part_early : (d s : Side) (p : Price) (t : StopEntry) → Met s p t
-    → Part (Met d p) (Unmet d p) (of_side d s t) none (of_side d s t)
+    → Part (Met d p) (Unmet d p) (of_side d s t) None (of_side d s t)
 unfolding of_side
 part_early Sell Sell p t h = early t h
 part_early Sell Buy p t h = never
@@ -123,7 +123,7 @@ part_early Buy Sell p t h = never
 part_early Buy Buy p t h = early t h
 
 pub part_late : (d s : Side) (p : Price) (t : StopEntry) → Unmet s p t
-    → Part (Met d p) (Unmet d p) none (of_side d s t) (of_side d s t)
+    → Part (Met d p) (Unmet d p) None (of_side d s t) (of_side d s t)
 unfolding of_side
 part_late Sell Sell p t h = late t h
 part_late Sell Buy p t h = never

@@ -1,4 +1,5 @@
 -- A sound stop, part by part; a stop stays sound when the next sequence goes up.
+use Rattle.std.specs.Prelude.{is_none}
 use Prim.Native.Nat.{ℕ, ◌≤◌, ◌<◌}
 use native.Mathlib.Omega.{arith}
 use mathlib.Core.Path.{◌≡◌, refl}
@@ -12,14 +13,13 @@ use Rattle.stop_terms.proofs.Terms.{inconsistency-number}
 use Rattle.stop_terms.specs.Terms.{behind}
 use Rattle.stop_terms.specs.declared.StopTerms.{StopTerms}
 use Rattle.book.specs.Book.{Slot, vacant, held, seq_of}
-use Rattle.book.specs.Lists.{is_none}
 use Rattle.book.specs.Store.{within_watermark}
 use Rattle.book.specs.Words.{consistent, sound_stop}
 use Rattle.book.specs.declared.StopEntry.{StopEntry}
 
 -- no inconsistency: a trail of at least 1, and the stop not past the watermark
 consistent_tests : (t : StopTerms) → consistent t ≡ (not (eqb t.trail 0) && within_watermark t)
-unfolding consistent is_none within_watermark
+unfolding consistent within_watermark
 consistent_tests t = rw (inconsistency-number t) (cases (eqb t.trail 0) (λ e. rw e)
     (λ e. cases (behind t.side t.watermark.0 t.stop.0) (λ f. rw (e, f)) (λ f. rw (e, f))))
 

@@ -3,7 +3,6 @@ use Prim.Native.Nat.{ℕ, ◌≤◌, ◌+◌}
 use mathlib.Core.Path.{◌≡◌, refl, sym, ap, ap₂, ◌∙◌}
 use mathlib.Core.Bool.{Bool, true}
 use mathlib.Core.List.{List, [], ◌∷◌, ◌++◌, map, map-append}
-use mathlib.Core.Option.{none}
 use native.Mathlib.Omega.{arith}
 use borrow.Author.Tests.{le-leb}
 use lib.ListN.{length, get_or, drop, length-append, length-map}
@@ -25,9 +24,8 @@ use Rattle.book.specs.StepCall.{stepped, step_questions, step_call, both_answers
 use Rattle.book.specs.Store.{stored, stored_book}
 use Rattle.book.specs.Words.{book_of, well_formed}
 use Rattle.book.specs.declared.Elected.{Elected}
-use Rattle.book.specs.declared.LastPrice.{LastPrice}
-use Rattle.book.specs.declared.LastPrice.TheVariants as last
 use Rattle.book.specs.declared.Moved.{Moved}
+use Rattle.std.specs.Prelude.{None, Option, Some}
 
 ------------------------------------------------------------------------
 -- Entries, whatever the book that decides the flag
@@ -66,7 +64,7 @@ accepted_step s w o = record {
   moved = o.moved;
 }
 
-module _ (s : Settings) (falls : Bool) (from : LastPrice) (price : Price) (w : List ℕ) (formed : well_formed w ≡ true) where
+module _ (s : Settings) (falls : Bool) (from : Option Price) (price : Price) (w : List ℕ) (formed : well_formed w ≡ true) where
   abbrev after : Evaluated
   after = stepped s.kill falls from price (book_of w)
 
@@ -88,7 +86,7 @@ module _ (s : Settings) (falls : Bool) (from : LastPrice) (price : Price) (w : L
       (omega (arith, point_count s.kill (sells_first falls from price) price (book_of w)))
 
   module _ (elected moved : ℕ) (room : pending_in w ≤ elected) (moved_room : pending_in w ≤ moved) where
-    step_questions_lem : first_no (step_questions w elected moved) ≡ none
+    step_questions_lem : first_no (step_questions w elected moved) ≡ None
     unfolding step_questions
     step_questions_lem =
         first_no_of (step_questions w elected moved)
@@ -125,7 +123,7 @@ steps_and s w o r rest again h = record {
 }
 
 module _ (s : Settings) (falls : Bool) (elected moved : ℕ) where
-  steps_from : (from : LastPrice) (ps : List Price) (w : List ℕ) → well_formed w ≡ true → All PriceFits ps
+  steps_from : (from : Option Price) (ps : List Price) (w : List ℕ) → well_formed w ≡ true → All PriceFits ps
       → pending_in w ≤ elected → pending_in w ≤ moved
       → Steps s w (steps_along s falls from ps w elected moved) (walk_from s.kill falls from ps (book_of w))
   unfolding steps_along walk_from counts_of elected_entries
@@ -133,10 +131,10 @@ module _ (s : Settings) (falls : Bool) (elected moved : ℕ) where
       record { answer = refl; words = stored_own w formed; elected = refl; moved = refl }
   steps_from from (p ∷ ps) w formed fits room moved_room =
       let o = stepped s.kill falls from p (book_of w) in
-      let r = walk_from s.kill falls (last.At p) ps o.book in
+      let r = walk_from s.kill falls (Some p) ps o.book in
       let st = step-stored s falls from p w formed fits.0 in
       let few = step_few s falls from p w formed fits.0 in
-      let rest = steps_from (last.At p) ps (stored_book o.book w) st.formed fits.1
+      let rest = steps_from (Some p) ps (stored_book o.book w) st.formed fits.1
       (omega (arith, few, room)) (omega (arith, few, moved_room)) in
       rw (step_accepted s falls from p w formed elected moved room moved_room)
       (steps_and s w o r _ (stored_again o.book r.book w (stored_book o.book w) st (step_records s falls from p w formed))
@@ -147,7 +145,7 @@ module _ (s : Settings) (falls : Bool) (elected moved : ℕ) where
 -- told whether the run falls from its first price to its last, then neither a step nor the walk is refused; the moves and
 -- the elected of the steps are, summed, those that the walk answers; the steps list in turn what the walk lists, entry by
 -- entry, in all but the flag; and the words that the last step leaves are the walk's.
-pub steps-walk : (s : Settings) (prev : LastPrice) (first : Price) (rest : List Price) (w : List ℕ)
+pub steps-walk : (s : Settings) (prev : Option Price) (first : Price) (rest : List Price) (w : List ℕ)
     (elected moved run : ℕ)
     → well_formed w ≡ true → All PriceFits (first ∷ rest) → length (first ∷ rest) ≤ most_prices
     → pending_in w ≤ elected → pending_in w ≤ moved → pending_in w ≤ run

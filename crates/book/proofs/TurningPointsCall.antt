@@ -3,7 +3,6 @@ use Prim.Native.Nat.{ℕ, ◌≤◌}
 use mathlib.Core.Path.{◌≡◌, sym}
 use mathlib.Core.Bool.{◌&&◌}
 use mathlib.Core.List.{List}
-use mathlib.Core.Option.{none}
 use native.Mathlib.Omega.{arith}
 use borrow.Author.Tests.{le-leb}
 use borrow.Table.Steps.{cases}
@@ -16,10 +15,11 @@ use Rattle.book.proofs.Questions.{first_no_of, decide_outcomes}
 use Rattle.book.proofs.Refusals.{accepted_refused}
 use Rattle.book.specs.Sizes.{most_prices}
 use Rattle.book.specs.TurningPoints.{turning_points_questions, TurningPointsOutcome, turning_points_call}
+use Rattle.std.specs.Prelude.{None}
 
 pub turning_points_accepted : (prices : List Price) (list : ℕ) → 1 ≤ length prices → length prices ≤ most_prices
     → length prices ≤ list
-    → first_no (turning_points_questions prices list) ≡ none
+    → first_no (turning_points_questions prices list) ≡ None
 unfolding turning_points_questions
 turning_points_accepted prices list k l h =
     first_no_of (turning_points_questions prices list)

@@ -16,13 +16,13 @@ use Rattle.book.specs.Runs.{DecidedAlike}
 use Rattle.book.specs.Sizes.{most_prices}
 use Rattle.book.specs.TurningPoints.{turning_points}
 use Rattle.book.specs.Words.{book_of, well_formed}
-use Rattle.book.specs.declared.LastPrice.{LastPrice}
+use Rattle.std.specs.Prelude.{Option}
 
 -- For every well-formed store, every run of 1 to 4,096 prices, prev or none, collar or none, any namespace, kill switch
 -- on or off, and any lent lists as long as the walks demand: neither walk is refused; both answer the same number
 -- elected; the elected entries are alike, entry by entry, in all but the trigger price; and the two stores are equal in
 -- every word.
-pub turns-decide : (s : Settings) (prev : LastPrice) (prices : List Price) (w : List ℕ) (turned run : ℕ)
+pub turns-decide : (s : Settings) (prev : Option Price) (prices : List Price) (w : List ℕ) (turned run : ℕ)
     → well_formed w ≡ true → 1 ≤ length prices → length prices ≤ most_prices
     → pending_in w ≤ turned → pending_in w ≤ run
     → DecidedAlike (walk_call s prev (turning_points prices) w turned) (walk_call s prev prices w run)

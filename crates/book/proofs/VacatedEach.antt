@@ -5,7 +5,6 @@ use mathlib.Core.Path.{◌≡◌, refl, sym, ap, ◌∙◌}
 use mathlib.Core.Logic.{◌≢◌}
 use mathlib.Core.Bool.{true, false≢true}
 use mathlib.Core.List.{List, [], ◌∷◌}
-use mathlib.Core.Option.{Option, none, some}
 use borrow.Author.Tests.{eqb-true, eqb-false}
 use borrow.Table.Steps.{cases}
 use lib.Dec.{eqb}
@@ -25,6 +24,7 @@ use Rattle.book.specs.Lists.{All}
 use Rattle.book.specs.Store.{lookup, vacated}
 use Rattle.book.specs.Valid.{Valid, Fits}
 use Rattle.book.specs.Words.{all_differ}
+use Rattle.std.specs.Prelude.{None, Option, Some}
 
 -- stops of a book, each of another record
 pub record Going (b : Book) (l : List Pending) : Type 0 where
@@ -84,14 +84,14 @@ identity_unique ss p q d h k same = cases (eqb p.index q.index)
     (slots_differ_vacant (get_or ss (p.index - 1) vacant)) (all_differ_others ss (p.index - 1) d)) in
     absurd (false≢true (sym (differs_parts p.entry q.entry apart).0 ∙ same)))
 
-pub lookup_is : (b : Book) (p : Pending) → Valid b → InBook b.slots p → lookup p.entry.id b ≡ some p
+pub lookup_is : (b : Book) (p : Pending) → Valid b → InBook b.slots p → lookup p.entry.id b ≡ Some p
 lookup_is b p v h = go (lookup p.entry.id b) refl
   where
-    go : (o : Option Pending) → lookup p.entry.id b ≡ o → lookup p.entry.id b ≡ some p
-    go none e =
+    go : (o : Option Pending) → lookup p.entry.id b ≡ o → lookup p.entry.id b ≡ Some p
+    go None e =
         let apart = rw h.there at
         (all_get_d (Unnamed p.entry.id) b.slots (p.index - 1) vacant tt (lookup_none p.entry.id b e)) in
         absurd (false≢true (sym apart ∙ same_id_refl p.entry.id))
-    go (some q) e =
+    go (Some q) e =
         let f = lookup_found p.entry.id b q e in
-        e ∙ ap some (identity_unique b.slots p q v.differ h f.0 f.1)
+        e ∙ ap Some (identity_unique b.slots p q v.differ h f.0 f.1)

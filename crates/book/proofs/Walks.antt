@@ -19,9 +19,8 @@ use Rattle.book.specs.Valid.{Valid, SlotFits, Fits}
 use Rattle.book.specs.Book.{Book, pending_count}
 use Rattle.book.specs.Evaluation.{settled, Evaluated, point, sells_first, falls_to, and_then, walk_from, segment_prices, segment, last_of, walk}
 use Rattle.book.specs.Words.{sound_stop}
-use Rattle.book.specs.declared.LastPrice.{LastPrice}
-use Rattle.book.specs.declared.LastPrice.TheVariants as last
 use Rattle.book.specs.declared.PrintSegment.{PrintSegment}
+use Rattle.std.specs.Prelude.{Option, Some}
 
 -- what an evaluation leaves alone
 pub record Kept (b c : Book) : Type 0 where
@@ -78,13 +77,13 @@ pub data PointsAt (kill : Bool) : List Price → Book → Evaluated → Type 0 w
       → PointsAt kill ps (point kill first p b).book rest
       → PointsAt kill (p ∷ ps) b (and_then (point kill first p b) rest)
 
-pub walk_from_points : (kill falls : Bool) (from : LastPrice) (ps : List Price) (b : Book)
+pub walk_from_points : (kill falls : Bool) (from : Option Price) (ps : List Price) (b : Book)
     → PointsAt kill ps b (walk_from kill falls from ps b)
 unfolding walk_from
 walk_from_points kill falls from [] b = done
 walk_from_points kill falls from (p ∷ ps) b =
     next (sells_first falls from p) p
-    (walk_from_points kill falls (last.At p) ps (point kill (sells_first falls from p) p b).book)
+    (walk_from_points kill falls (Some p) ps (point kill (sells_first falls from p) p b).book)
 
 -- nothing after an evaluation
 pub then_none : (o : Evaluated) → and_then o (record { book = o.book; fills = []; moved = [] }) ≡ o
@@ -102,7 +101,7 @@ pub segment_points : (kill : Bool) (s : PrintSegment) (b : Book) → PointsAt ki
 unfolding segment
 segment_points kill s b = walk_from_points kill (falls_to s.first s.last) s.prev (segment_prices s) b
 
-pub walk_points : (kill : Bool) (prev : LastPrice) (ps : List Price) (b : Book)
+pub walk_points : (kill : Bool) (prev : Option Price) (ps : List Price) (b : Book)
     → PointsAt kill ps b (walk kill prev ps b)
 unfolding walk
 walk_points kill prev [] b = walk_from_points kill true prev [] b

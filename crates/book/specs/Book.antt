@@ -1,12 +1,11 @@
 -- The book and its chains: document 01, The store.
-use Rattle.std.specs.Prelude.{ℕ, suc, Bool, ◌&&◌, ◌||◌, List, [], ◌∷◌, map, ltb, eqb}
-use Rattle.std.proofs.Math.Option.{Option, none, some}
+use Rattle.std.specs.Prelude.{ℕ, suc, Bool, ◌&&◌, ◌||◌, List, [], ◌∷◌, map, ltb, eqb, None, Option, Some}
 use Rattle.pricelevel.specs.declared.Side.{Side}
 use Rattle.pricelevel.specs.declared.Side.TheVariants.{Buy, Sell}
-pub use Rattle.book.specs.declared.Chain.{Chain}
-pub use Rattle.book.specs.declared.Chain.TheVariants.{ByStop, ByWatermark}
 use Rattle.book.specs.Lists.{sort_by}
 use Rattle.book.specs.declared.StopEntry.{StopEntry}
+pub use Rattle.book.specs.declared.Chain.{Chain}
+pub use Rattle.book.specs.declared.Chain.TheVariants.{ByStop, ByWatermark}
 
 -- one of the n records
 pub data Slot : Type 0 where
@@ -57,8 +56,8 @@ pub record Pending : Type 0 where
 
 -- the stops that a choice takes from the records, by index from i on
 unfoldable pub with_index : ℕ → Option StopEntry → List Pending → List Pending
-with_index i none l = l
-with_index i (some t) l = record { index = i; entry = t } ∷ l
+with_index i None l = l
+with_index i (Some t) l = record { index = i; entry = t } ∷ l
 
 unfoldable pub gather : (Slot → Option StopEntry) → ℕ → List Slot → List Pending
 gather choice i [] = []
@@ -73,13 +72,13 @@ sort c l = sort_by (earlier_in c) l
 
 -- the stop, if it is of this side
 unfoldable pub of_side : Side → Side → StopEntry → Option StopEntry
-of_side Sell Sell t = some t
-of_side Sell Buy t = none
-of_side Buy Sell t = none
-of_side Buy Buy t = some t
+of_side Sell Sell t = Some t
+of_side Sell Buy t = None
+of_side Buy Sell t = None
+of_side Buy Buy t = Some t
 
 unfoldable pub pending_on : Side → Slot → Option StopEntry
-pending_on side vacant = none
+pending_on side vacant = None
 pending_on side (held t) = of_side side (side_of t) t
 
 -- a chain holds exactly the pending records of its side, in order

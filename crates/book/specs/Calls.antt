@@ -1,7 +1,7 @@
 -- The calls that evaluate: segment, walk, pass and the run over path and store. An outcome has the entries that the
 -- call lists; of a lent list the call asks its length alone. Document 01, The questions a call goes through; One point,
 -- one segment, one pass.
-use Rattle.std.specs.Prelude.{ℕ, zero, suc, ◌+◌, ◌*◌, not, cond, ◌&&◌, ◌||◌, List, [], ◌∷◌, ◌++◌, map, leb, eqb, length, drop}
+use Rattle.std.specs.Prelude.{ℕ, zero, suc, ◌+◌, ◌*◌, not, cond, ◌&&◌, ◌||◌, List, [], ◌∷◌, ◌++◌, map, leb, eqb, length, drop, Option}
 use Rattle.error.specs.Answer.{Answer, refused, accepted}
 use Rattle.pricelevel.specs.declared.Price.{Price}
 use Rattle.stop_protection.specs.Collar.{limit_under}
@@ -15,7 +15,6 @@ use Rattle.book.specs.Sizes.{most_prices, script_entry_length}
 use Rattle.book.specs.Store.{is_pending, stored_book}
 use Rattle.book.specs.Words.{book_of, well_formed}
 use Rattle.book.specs.declared.Elected.{Elected}
-use Rattle.book.specs.declared.LastPrice.{LastPrice}
 use Rattle.book.specs.declared.Moved.{Moved}
 use Rattle.book.specs.declared.PrintPath.{PrintPath}
 use Rattle.book.specs.declared.PrintSegment.{PrintSegment}
@@ -98,7 +97,7 @@ walk_questions prices w elected =
     ∷ question 16 (leb 1 (length prices) && leb (length prices) most_prices)
     ∷ []
 
-unfoldable pub walk_call : Settings → LastPrice → List Price → List ℕ → ℕ → WalkOutcome
+unfoldable pub walk_call : Settings → Option Price → List Price → List ℕ → ℕ → WalkOutcome
 walk_call s prev prices w elected =
     let o : Evaluated = walk s.kill prev prices (book_of w) in
     decide (first_no (walk_questions prices w elected))
@@ -188,7 +187,7 @@ pub record RunOutcome : Type 0 where
   pub path : PrintPath
 
 -- answers zeros and leaves all alone when nothing is pending or the path is closed, else takes it, passes, resets
-unfoldable pub run_over : Settings → List ℕ → LastPrice → List ℕ → PrintPath → RunOutcome
+unfoldable pub run_over : Settings → List ℕ → Option Price → List ℕ → PrintPath → RunOutcome
 run_over s script trade w path =
     let o : PassOutcome = passed s script (segment_of path trade) w in
     cond (eqb (pending_in w) 0 || not path.«open»)
@@ -196,7 +195,7 @@ run_over s script trade w path =
     (record { answer = o.answer; words = o.words; elected = o.elected; path = closed path })
 
 -- it goes through the pass's questions first
-unfoldable pub run_call : Settings → List ℕ → LastPrice → List ℕ → ℕ → PrintPath → RunOutcome
+unfoldable pub run_call : Settings → List ℕ → Option Price → List ℕ → ℕ → PrintPath → RunOutcome
 run_call s script trade w elected path =
     decide (first_no (pass_questions script w elected))
     (λ k. record { answer = refused k; words = w; elected = []; path = path })

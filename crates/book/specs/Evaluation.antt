@@ -1,13 +1,10 @@
 -- A point, a segment and a walk over a book: document 01, One point, one segment, one pass.
-use Rattle.std.specs.Prelude.{ℕ, ◌+◌, Bool, true, false, not, cond, ◌&&◌, List, [], ◌∷◌, ◌++◌, map, leb, ltb, eqb}
-use Rattle.std.proofs.Math.Option.{Option, none}
+use Rattle.std.specs.Prelude.{ℕ, ◌+◌, Bool, true, false, not, cond, ◌&&◌, List, [], ◌∷◌, ◌++◌, map, leb, ltb, eqb, None, Option, Some}
 use Rattle.pricelevel.specs.declared.Price.{Price}
 use Rattle.pricelevel.specs.declared.Side.{Side}
 use Rattle.pricelevel.specs.declared.Side.TheVariants.{Buy, Sell}
 use Rattle.stop_terms.specs.Terms.{trailed_at, elected_at}
 use Rattle.book.specs.Book.{Slot, vacant, held, Book, ByStop, ByWatermark, Pending, gather, sort, side_of, stop_of, of_side}
-use Rattle.book.specs.declared.LastPrice.{LastPrice}
-use Rattle.book.specs.declared.LastPrice.TheVariants as last
 use Rattle.book.specs.declared.Moved.{Moved}
 use Rattle.book.specs.declared.PrintSegment.{PrintSegment}
 use Rattle.book.specs.declared.StopEntry.{StopEntry}
@@ -32,10 +29,10 @@ settled kill price (held t) = vacated_if (leaves kill price (trailed price t)) (
 -- the stops of a side that a point takes out, as they leave, in stop chain order
 unfoldable pub leaving_on : Bool → Side → StopEntry → Option StopEntry
 leaving_on true side t = of_side side (side_of t) t
-leaving_on false side t = none
+leaving_on false side t = None
 
 unfoldable pub leaver : Bool → Price → Side → Slot → Option StopEntry
-leaver kill price side vacant = none
+leaver kill price side vacant = None
 leaver kill price side (held t) = leaving_on (leaves kill price (trailed price t)) side (trailed price t)
 
 unfoldable pub elected_on : Bool → Price → Side → Book → List Pending
@@ -52,11 +49,11 @@ freed (p ∷ l) free = freed l (p.index ∷ free)
 
 -- the stops of a side whose stop a point changes, in watermark chain order, with their new stops
 unfoldable pub changed_on : Bool → Side → StopEntry → Option StopEntry
-changed_on true side t = none
+changed_on true side t = None
 changed_on false side t = of_side side (side_of t) t
 
 unfoldable pub mover : Price → Side → Slot → Option StopEntry
-mover price side vacant = none
+mover price side vacant = None
 mover price side (held t) = changed_on (eqb (stop_of (trailed price t)) (stop_of t)) side t
 
 unfoldable pub moved_entry : Price → Pending → Moved
@@ -98,9 +95,9 @@ point kill sells_first price b = record {
 
 -- sells come first if price < arrived-from; if that is absent or equals the price, exactly when the segment's last ≤
 -- its first
-unfoldable pub sells_first : Bool → LastPrice → Price → Bool
-sells_first falls last.None price = falls
-sells_first falls (last.At from) price = cond (eqb from.0 price.0) falls (ltb price.0 from.0)
+unfoldable pub sells_first : Bool → Option Price → Price → Bool
+sells_first falls None price = falls
+sells_first falls (Some from) price = cond (eqb from.0 price.0) falls (ltb price.0 from.0)
 
 unfoldable pub falls_to : Price → Price → Bool
 falls_to first last = leb last.0 first.0
@@ -110,11 +107,11 @@ unfoldable pub and_then : Evaluated → Evaluated → Evaluated
 and_then o r = record { book = r.book; fills = o.fills ++ r.fills; moved = o.moved ++ r.moved }
 
 -- a point at each price in turn, on the book that the point before left and arrived from that point's price
-unfoldable pub walk_from : Bool → Bool → LastPrice → List Price → Book → Evaluated
+unfoldable pub walk_from : Bool → Bool → Option Price → List Price → Book → Evaluated
 walk_from kill falls from [] b = record { book = b; fills = []; moved = [] }
 walk_from kill falls from (p ∷ ps) b =
     and_then (point kill (sells_first falls from p) p b)
-    (walk_from kill falls (last.At p) ps (point kill (sells_first falls from p) p b).book)
+    (walk_from kill falls (Some p) ps (point kill (sells_first falls from p) p b).book)
 
 -- the prices of a segment's points: first, and last if it differs
 abbrev pub segment_prices : PrintSegment → List Price
@@ -130,6 +127,6 @@ last_of p [] = p
 last_of p (q ∷ qs) = last_of q qs
 
 -- a walk: first and last are those of the whole run
-unfoldable pub walk : Bool → LastPrice → List Price → Book → Evaluated
+unfoldable pub walk : Bool → Option Price → List Price → Book → Evaluated
 walk kill prev [] b = walk_from kill true prev [] b
 walk kill prev (p ∷ ps) b = walk_from kill (falls_to p (last_of p ps)) prev (p ∷ ps) b

@@ -1,4 +1,3 @@
-pub mod Answers
 pub mod Book
 pub mod BySequence
 pub mod Calls

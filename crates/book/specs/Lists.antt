@@ -1,6 +1,5 @@
 -- Lists: what the definitions of the book share.
-use Rattle.std.specs.Prelude.{ℕ, zero, suc, Bool, true, false, cond, ◌&&◌, List, [], ◌∷◌, eqb}
-use Rattle.std.proofs.Math.Option.{Option, none, some}
+use Rattle.std.specs.Prelude.{ℕ, zero, suc, Bool, true, false, cond, ◌&&◌, List, [], ◌∷◌, eqb, None, Option, Some}
 
 -- the first element, or 0: how a chain is named in a word
 unfoldable pub head_or0 : List ℕ → ℕ
@@ -13,14 +12,6 @@ rising i zero = []
 rising i (suc k) = i ∷ rising (suc i) k
 
 -- no value, a value
-unfoldable pub is_none : {A : Type 0} → Option A → Bool
-is_none none = true
-is_none (some x) = false
-
-unfoldable pub is_some : {A : Type 0} → Option A → Bool
-is_some none = false
-is_some (some x) = true
-
 -- a fact of every element, and a test on every element
 abbrev pub All : {A : Type 0} → (A → Type 0) → List A → Type 0
 All P [] = Unit {0}

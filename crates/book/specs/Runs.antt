@@ -1,6 +1,6 @@
 -- The words of document 01's demand 3 and of document 02, Five: runs that never fall or never rise, elected entries that
 -- are alike, and runs that a shorter one decides.
-use Rattle.std.specs.Prelude.{ℕ, ◌≤◌, Bool, List, [], ◌∷◌, map, ◌≡◌, length}
+use Rattle.std.specs.Prelude.{ℕ, ◌≤◌, Bool, List, [], ◌∷◌, map, ◌≡◌, length, Option}
 use Rattle.error.specs.Answer.{accepted}
 use Rattle.pricelevel.specs.declared.Id.{Id}
 use Rattle.pricelevel.specs.declared.Price.{Price}
@@ -8,9 +8,9 @@ use Rattle.pricelevel.specs.declared.Quantity.{Quantity}
 use Rattle.pricelevel.specs.declared.Seq.{Seq}
 use Rattle.pricelevel.specs.declared.Side.{Side}
 use Rattle.pricelevel.specs.declared.Side.TheVariants.{Buy, Sell}
-use Rattle.stop_protection.specs.declared.Limit.{Limit}
 use Rattle.book.specs.Calls.{SegmentOutcome, WalkOutcome}
 use Rattle.book.specs.declared.Elected.{Elected}
+use Rattle.stop_protection.specs.declared.LimitPrice.{LimitPrice}
 
 -- the direction of a run is the side whose stops trail it: a sell's go up, a buy's down
 abbrev pub Goes : Side → ℕ → ℕ → Type 0
@@ -30,7 +30,7 @@ pub record Likeness : Type 0 where
   pub stop : Price
   pub quantity : Quantity
   pub seq : Seq
-  pub limit : Limit
+  pub limit : Option LimitPrice
   pub child : Id
   pub pending : Bool
 

@@ -1,11 +1,10 @@
 -- A pass over a queue of segments, with the script that stands for the matching of its children: document 01, One
 -- point, one segment, one pass.
-use Rattle.std.specs.Prelude.{ℕ, ◌+◌, ◌*◌, Bool, true, false, cond, ◌&&◌, ◌||◌, List, [], ◌∷◌, ◌++◌, leb, eqb, length, get_or, drop}
+use Rattle.std.specs.Prelude.{ℕ, ◌+◌, ◌*◌, Bool, true, false, cond, ◌&&◌, ◌||◌, List, [], ◌∷◌, ◌++◌, leb, eqb, length, get_or, drop, None, Option, Some}
 use Rattle.book.specs.Sizes.{script_entry_length}
 use Rattle.book.specs.declared.Elected.{Elected}
-use Rattle.book.specs.declared.LastPrice.{LastPrice}
-use Rattle.book.specs.declared.LastPrice.TheVariants as last
 use Rattle.book.specs.declared.PrintSegment.{PrintSegment}
+use Rattle.pricelevel.specs.declared.Price.{Price}
 
 -- an entry is five words: printed (0, 1), prev present (0, 1), prev, first, last
 
@@ -19,8 +18,8 @@ script_formed (printed ∷ present ∷ prev ∷ first ∷ []) = false
 script_formed (printed ∷ present ∷ prev ∷ first ∷ last ∷ rest) = (leb printed 1 && leb present 1) && script_formed rest
 
 -- words that a flag of 0 leaves unused are not read
-unfoldable pub script_prev : List ℕ → LastPrice
-script_prev script = cond (eqb (get_or script 1 0) 1) (last.At (record { 0 = get_or script 2 0 })) last.None
+unfoldable pub script_prev : List ℕ → Option Price
+script_prev script = cond (eqb (get_or script 1 0) 1) (Some (record { 0 = get_or script 2 0 })) None
 
 unfoldable pub script_segment : List ℕ → List PrintSegment
 script_segment script =

@@ -1,6 +1,6 @@
 -- The step: a point at one price of a run, told where the run comes from and whether it falls as a whole, which one price
 -- does not show. And what the steps along a run come to, one after the other.
-use Rattle.std.specs.Prelude.{ℕ, ◌+◌, Bool, false, ◌&&◌, List, [], ◌∷◌, ◌++◌, map, ◌≡◌, leb, length}
+use Rattle.std.specs.Prelude.{ℕ, ◌+◌, Bool, false, ◌&&◌, List, [], ◌∷◌, ◌++◌, map, ◌≡◌, leb, length, Option, Some}
 use Rattle.error.specs.Answer.{Answer, refused, accepted}
 use Rattle.error.specs.Questions.{Question, question, first_no, decide}
 use Rattle.pricelevel.specs.declared.Price.{Price}
@@ -10,11 +10,9 @@ use Rattle.book.specs.Evaluation.{Evaluated, point, sells_first}
 use Rattle.book.specs.Store.{stored_book}
 use Rattle.book.specs.Words.{book_of, well_formed}
 use Rattle.book.specs.declared.Elected.{Elected}
-use Rattle.book.specs.declared.LastPrice.{LastPrice}
-use Rattle.book.specs.declared.LastPrice.TheVariants as last
 
 -- a point of a walk: at a price arrived from another, of a run that falls as a whole or does not
-abbrev pub stepped : Bool → Bool → LastPrice → Price → Book → Evaluated
+abbrev pub stepped : Bool → Bool → Option Price → Price → Book → Evaluated
 stepped kill falls from price b = point kill (sells_first falls from price) price b
 
 -- both lists at least count entries? 14; a point moves a stop at most once
@@ -23,7 +21,7 @@ step_questions w elected moved =
     question 1 (well_formed w) ∷ question 14 (leb (pending_in w) elected && leb (pending_in w) moved) ∷ []
 
 -- whether a child is pending is asked of the book after the step
-unfoldable pub step_call : Settings → Bool → LastPrice → Price → List ℕ → ℕ → ℕ → SegmentOutcome
+unfoldable pub step_call : Settings → Bool → Option Price → Price → List ℕ → ℕ → ℕ → SegmentOutcome
 step_call s falls from price w elected moved =
     let o : Evaluated = stepped s.kill falls from price (book_of w) in
     decide (first_no (step_questions w elected moved))
@@ -49,12 +47,12 @@ step_and o rest = record {
 }
 
 -- each step on the words that the step before left, arrived from its price, with lists of the same lengths
-unfoldable pub steps_along : Settings → Bool → LastPrice → List Price → List ℕ → ℕ → ℕ → SegmentOutcome
+unfoldable pub steps_along : Settings → Bool → Option Price → List Price → List ℕ → ℕ → ℕ → SegmentOutcome
 steps_along s falls from [] w elected moved =
     record { answer = accepted (record { moves = 0; elected = 0 }); words = w; elected = []; moved = [] }
 steps_along s falls from (p ∷ ps) w elected moved =
     let o : SegmentOutcome = step_call s falls from p w elected moved in
-    step_and o (steps_along s falls (last.At p) ps o.words elected moved)
+    step_and o (steps_along s falls (Some p) ps o.words elected moved)
 
 ------------------------------------------------------------------------
 -- The steps against the walk

@@ -1,7 +1,6 @@
 -- The steps that a point consists of: the stops of one side trail, or the elected of one side leave. Document 01, One
 -- point, one segment, one pass.
-use Rattle.std.specs.Prelude.{Bool, true, false, cond, List, map, ◌++◌}
-use Rattle.std.proofs.Math.Option.{Option, none, some}
+use Rattle.std.specs.Prelude.{Bool, true, false, cond, List, map, ◌++◌, None, Option, Some}
 use Rattle.pricelevel.specs.declared.Price.{Price}
 use Rattle.pricelevel.specs.declared.Side.{Side}
 use Rattle.pricelevel.specs.declared.Side.TheVariants.{Buy, Sell}
@@ -31,7 +30,7 @@ trailed_on side price b = record { next = b.next; tick = b.tick; slots = map (tr
 
 -- the stop of a record, if it is of this side and the price elects it
 unfoldable pub elect : Side → Price → Slot → Option StopEntry
-elect side price vacant = none
+elect side price vacant = None
 elect side price (held t) = leaving_on (elected_at t.terms price) side t
 
 -- in stop chain order
@@ -39,8 +38,8 @@ unfoldable pub elected_in : Side → Price → Book → List Pending
 elected_in side price b = sort (ByStop side) (gather (elect side price) 1 b.slots)
 
 unfoldable pub vacated_by : Option StopEntry → Slot → Slot
-vacated_by none s = s
-vacated_by (some t) s = vacant
+vacated_by None s = s
+vacated_by (Some t) s = vacant
 
 unfoldable pub stays : Side → Price → Slot → Slot
 stays side price s = vacated_by (elect side price s) s

@@ -1,7 +1,6 @@
 -- The calls on the store: layout, clear, find, admission, changes, cancel and totals. Document 01, The store;
 -- Admission, change, cancel; The questions a call goes through.
-use Rattle.std.specs.Prelude.{ℕ, ◌+◌, ◌-◌, ◌^◌, Bool, true, false, not, cond, ◌&&◌, ◌||◌, List, [], ◌∷◌, ◌++◌, leb, ltb, eqb, length, get_or, set, drop, replicate}
-use Rattle.std.proofs.Math.Option.{Option, none, some}
+use Rattle.std.specs.Prelude.{ℕ, ◌+◌, ◌-◌, ◌^◌, Bool, true, false, not, cond, ◌&&◌, ◌||◌, List, [], ◌∷◌, ◌++◌, leb, ltb, eqb, length, get_or, set, drop, replicate, None, Option, Some, is_some}
 use Rattle.error.specs.Answer.{Answer, refused, accepted}
 use Rattle.pricelevel.specs.Identity.{same_id}
 use Rattle.pricelevel.specs.Tick.{on_tick}
@@ -16,13 +15,11 @@ use Rattle.pricelevel.specs.declared.Side.TheVariants.{Buy, Sell}
 use Rattle.stop_terms.specs.Terms.{behind, elected_at}
 use Rattle.stop_terms.specs.declared.StopTerms.{StopTerms}
 use Rattle.book.specs.Book.{Slot, vacant, held, Book, ByStop, Pending, side_of, stop_of, pending_on, chain, pending_count}
-use Rattle.book.specs.Lists.{head_or0, rising, is_some}
+use Rattle.book.specs.Lists.{head_or0, rising}
 use Rattle.book.specs.Path.{closed}
 use Rattle.error.specs.Questions.{Question, question, first_no, decide}
 use Rattle.book.specs.Words.{layout, book_of, well_formed}
 use Rattle.book.specs.Sizes.{most_records, store_length}
-use Rattle.book.specs.declared.LastPrice.{LastPrice}
-use Rattle.book.specs.declared.LastPrice.TheVariants as last
 use Rattle.book.specs.declared.OrderUpdate.{OrderUpdate}
 use Rattle.book.specs.declared.OrderUpdate.TheVariants.{UpdateQuantity, UpdatePrice, UpdatePriceAndQuantity, Replace}
 use Rattle.book.specs.declared.PrintPath.{PrintPath}
@@ -72,8 +69,8 @@ clear w path =
 -- Find
 
 unfoldable pub named : Id → List Pending → Option Pending
-named id [] = none
-named id (p ∷ l) = cond (same_id id p.entry.id) (some p) (named id l)
+named id [] = None
+named id (p ∷ l) = cond (same_id id p.entry.id) (Some p) (named id l)
 
 -- along the sell stop chain, then the buy stop chain
 unfoldable pub lookup : Id → Book → Option Pending
@@ -84,8 +81,8 @@ is_pending id b = is_some (lookup id b)
 
 -- the pending stop of this identity, if there is one; the store is only read
 unfoldable pub entry_of : Option Pending → Option StopEntry
-entry_of none = none
-entry_of (some p) = some p.entry
+entry_of None = None
+entry_of (Some p) = Some p.entry
 
 unfoldable pub find : Id → List ℕ → Answer (Option StopEntry)
 find id w = decide (first_no (question 1 (well_formed w) ∷ [])) refused (accepted (entry_of (lookup id (book_of w))))
@@ -98,11 +95,11 @@ unfoldable pub within_watermark : StopTerms → Bool
 within_watermark t = not (behind t.side t.watermark.0 t.stop.0)
 
 -- no last trade, or not elected by it
-unfoldable pub not_triggered : StopTerms → LastPrice → Bool
-not_triggered t last.None = true
-not_triggered t (last.At p) = not (elected_at t p)
+unfoldable pub not_triggered : StopTerms → Option Price → Bool
+not_triggered t None = true
+not_triggered t (Some p) = not (elected_at t p)
 
-unfoldable pub admission_questions : Bool → LastPrice → Id → StopTerms → Quantity → List ℕ → List Question
+unfoldable pub admission_questions : Bool → Option Price → Id → StopTerms → Quantity → List ℕ → List Question
 admission_questions kill trade id terms quantity w =
     question 1 (well_formed w)
     ∷ question 3 (not kill)
@@ -138,7 +135,7 @@ new_entry id terms quantity holder b = record {
 unfoldable pub path_after_admission : Book → PrintPath → PrintPath
 path_after_admission b path = cond (eqb (pending_count b.slots) 0) (closed path) path
 
-unfoldable pub admit : Bool → LastPrice → Id → StopTerms → Quantity → Holder → List ℕ → PrintPath → PathOutcome Seq
+unfoldable pub admit : Bool → Option Price → Id → StopTerms → Quantity → Holder → List ℕ → PrintPath → PathOutcome Seq
 admit kill trade id terms quantity holder w path =
     decide (first_no (admission_questions kill trade id terms quantity w))
     (λ number. record { answer = refused number; words = w; path = path })
@@ -157,8 +154,8 @@ vacated i b = record { next = b.next; tick = b.tick; slots = set b.slots (i - 1)
 
 -- a cancel answers the record before it
 unfoldable pub cancel_found : Option Pending → List ℕ → StoreOutcome StopEntry
-cancel_found none w = record { answer = refused 12; words = w }
-cancel_found (some p) w = record { answer = accepted p.entry; words = stored_book (vacated p.index (book_of w)) w }
+cancel_found None w = record { answer = refused 12; words = w }
+cancel_found (Some p) w = record { answer = accepted p.entry; words = stored_book (vacated p.index (book_of w)) w }
 
 unfoldable pub cancel : Id → List ℕ → StoreOutcome StopEntry
 cancel id w =
@@ -203,7 +200,7 @@ differs_in_price (UpdatePrice price) t = not (eqb price.0 (stop_of t))
 differs_in_price (UpdatePriceAndQuantity price quantity) t = true
 differs_in_price (Replace side price quantity) t = true
 
-unfoldable pub change_questions : OrderUpdate → LastPrice → StopEntry → Book → List Question
+unfoldable pub change_questions : OrderUpdate → Option Price → StopEntry → Book → List Question
 change_questions update trade t b =
     question 13 (differs_in_price update t)
     ∷ question 4 (leb 1 (changed_quantity update t).0)
@@ -230,17 +227,17 @@ changed update p b = record {
 }
 
 -- a change answers the record after it
-unfoldable pub change_found : OrderUpdate → LastPrice → Pending → List ℕ → StoreOutcome StopEntry
+unfoldable pub change_found : OrderUpdate → Option Price → Pending → List ℕ → StoreOutcome StopEntry
 change_found update trade p w =
     decide (first_no (change_questions update trade p.entry (book_of w)))
     (λ k. record { answer = refused k; words = w })
     (record { answer = accepted (changed_entry update p.entry (book_of w)); words = stored_book (changed update p (book_of w)) w })
 
-unfoldable pub update_found : OrderUpdate → LastPrice → Option Pending → List ℕ → StoreOutcome StopEntry
-update_found update trade none w = record { answer = refused 12; words = w }
-update_found update trade (some p) w = cond (cancels update) (cancel_found (some p) w) (change_found update trade p w)
+unfoldable pub update_found : OrderUpdate → Option Price → Option Pending → List ℕ → StoreOutcome StopEntry
+update_found update trade None w = record { answer = refused 12; words = w }
+update_found update trade (Some p) w = cond (cancels update) (cancel_found (Some p) w) (change_found update trade p w)
 
-unfoldable pub update : OrderUpdate → Id → LastPrice → List ℕ → StoreOutcome StopEntry
+unfoldable pub update : OrderUpdate → Id → Option Price → List ℕ → StoreOutcome StopEntry
 update change id trade w =
     decide (first_no (question 1 (well_formed w) ∷ []))
     (λ k. record { answer = refused k; words = w })
@@ -251,8 +248,8 @@ update change id trade w =
 
 -- the sum in record index order
 unfoldable pub quantity_of : Option StopEntry → ℕ
-quantity_of none = 0
-quantity_of (some t) = t.quantity.0
+quantity_of None = 0
+quantity_of (Some t) = t.quantity.0
 
 unfoldable pub total : Side → List Slot → ℕ
 total side [] = 0

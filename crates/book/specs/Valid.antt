@@ -1,7 +1,6 @@
 -- What a valid book is, fact by fact, that its numbers are words, and when a stop may be taken into it: the facts
 -- behind `valid` and `are_words` of Words and the questions of an admission, as the proofs use them.
-use Rattle.std.specs.Prelude.{◌≤◌, ◌<◌, ◌^◌, ◌≡◌, true, length}
-use Rattle.std.proofs.Math.Option.{none}
+use Rattle.std.specs.Prelude.{◌≤◌, ◌<◌, ◌^◌, ◌≡◌, true, length, None}
 use Rattle.pricelevel.specs.Holder.{HolderFits}
 use Rattle.pricelevel.specs.Tick.{on_tick}
 use Rattle.book.specs.Book.{Slot, vacant, held, Book, seq_of, pending_count}
@@ -44,5 +43,5 @@ pub record Admissible (t : StopEntry) (b : Book) : Type 0 where
   pub some_quantity : 1 ≤ t.quantity.0
   pub terms : consistent t.terms ≡ true
   pub is_on_tick : on_tick b.tick t.terms.trail ≡ true
-  pub absent : lookup t.id b ≡ none
+  pub absent : lookup t.id b ≡ None
   pub room : pending_count b.slots < length b.slots

@@ -1,5 +1,5 @@
 -- The words of a book, and when words are well formed: document 01, The store, with the holders of document 02, One.
-use Rattle.std.specs.Prelude.{ℕ, zero, suc, ◌+◌, ◌-◌, ◌*◌, ◌^◌, Bool, true, cond, not, ◌&&◌, List, [], ◌∷◌, ◌++◌, leb, ltb, eqb, length, get_or, take, drop, replicate}
+use Rattle.std.specs.Prelude.{ℕ, zero, suc, ◌+◌, ◌-◌, ◌*◌, ◌^◌, Bool, true, cond, not, ◌&&◌, List, [], ◌∷◌, ◌++◌, leb, ltb, eqb, length, get_or, take, drop, replicate, is_none}
 use Rattle.pricelevel.specs.Holder.{holder_words, holder_of}
 use Rattle.pricelevel.specs.Identity.{kind_number, same_id}
 use Rattle.pricelevel.specs.Side.{side_number}
@@ -11,7 +11,7 @@ use Rattle.pricelevel.specs.declared.Side.TheVariants.{Buy, Sell}
 use Rattle.stop_terms.specs.Terms.{inconsistency_of, inconsistency_number}
 use Rattle.stop_terms.specs.declared.StopTerms.{StopTerms}
 use Rattle.book.specs.Book.{Slot, vacant, held, Book, Chain, ByStop, ByWatermark, side_of, stop_of, watermark_of, seq_of, chain, indices, pending_count}
-use Rattle.book.specs.Lists.{head_or0, is_none, every, same_list, sort_by}
+use Rattle.book.specs.Lists.{head_or0, every, same_list, sort_by}
 use Rattle.book.specs.Sizes.{header_length, record_length, most_records, store_length, next_by_stop, data_length}
 use Rattle.book.specs.declared.StopEntry.{StopEntry}
 

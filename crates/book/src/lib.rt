@@ -4,7 +4,7 @@
 
 use error::Refusal;
 use pricelevel::{Holder, Id, Price, Quantity, Seq, Side, TwoWords};
-use stop_protection::{Limit, Protection};
+use stop_protection::{LimitPrice, StopProtection};
 use stop_terms::StopTerms;
 use uuid_v5::Uuid;
 
@@ -95,17 +95,10 @@ pub enum Selector {
     ByPriceRange(Price, Price),
 }
 
-// A price that may be absent: the last trade, or the price that a sweep arrived from.
-#[derive(Clone, Copy)]
-pub enum LastPrice {
-    None,
-    At(Price),
-}
-
 // One sweep's prints: the price before it, its first print and its last.
 #[derive(Clone, Copy)]
 pub struct PrintSegment {
-    pub prev: LastPrice,
+    pub prev: Option<Price>,
     pub first: Price,
     pub last: Price,
 }
@@ -130,7 +123,7 @@ pub struct Elected {
     pub quantity: Quantity,
     pub seq: Seq,
     pub trigger: Price,
-    pub limit: Limit,
+    pub limit: Option<LimitPrice>,
     pub child: Id,
     pub pending: bool,
 }
@@ -147,60 +140,24 @@ pub struct Moved {
 #[derive(Clone, Copy)]
 pub struct Settings {
     pub kill: bool,
-    pub protection: Protection,
+    pub protection: Option<StopProtection>,
     pub namespace: Uuid,
 }
 
 // ---------------------------------------------------------------------
 // What calls answer
 
-// What layout_store answers.
-#[derive(Clone, Copy)]
-pub enum LayoutAnswer {
-    Ok,
-    Err(Refusal),
-}
-
-// What an admission answers: the sequence of the stop, or why it was refused.
-#[derive(Clone, Copy)]
-pub enum AdmissionAnswer {
-    Ok(Seq),
-    Err(Refusal),
-}
-
 // The answer of an admission, and the print path after it.
 #[derive(Clone, Copy)]
 pub struct Admission {
-    pub answer: AdmissionAnswer,
+    pub answer: Result<Seq, Refusal>,
     pub path: PrintPath,
-}
-
-// What a cancel or a change answers: the stop before a cancel, or after a change; or why it was refused.
-#[derive(Clone, Copy)]
-pub enum StopAnswer {
-    Ok(StopEntry),
-    Err(Refusal),
-}
-
-// What a search for an identity answers: the pending stop, none, or why it was refused.
-#[derive(Clone, Copy)]
-pub enum FindAnswer {
-    Found(StopEntry),
-    None,
-    Err(Refusal),
-}
-
-// What a call that lists stops answers: how many it listed, or why it was refused.
-#[derive(Clone, Copy)]
-pub enum ListAnswer {
-    Ok(u64),
-    Err(Refusal),
 }
 
 // What clear answers, and the print path after it.
 #[derive(Clone, Copy)]
 pub struct Cleared {
-    pub answer: LayoutAnswer,
+    pub answer: Result<(), Refusal>,
     pub path: PrintPath,
 }
 
@@ -211,25 +168,11 @@ pub struct Totals {
     pub buy: TwoWords,
 }
 
-// What the pending quantity of each side answers, or why it was refused.
-#[derive(Clone, Copy)]
-pub enum QuantityAnswer {
-    Ok(Totals),
-    Err(Refusal),
-}
-
 // How many stops were moved, once per point, and how many were elected.
 #[derive(Clone, Copy)]
 pub struct Counts {
     pub moves: u64,
     pub elected: u64,
-}
-
-// What a segment or a walk answers, or why it was refused.
-#[derive(Clone, Copy)]
-pub enum EvaluationAnswer {
-    Ok(Counts),
-    Err(Refusal),
 }
 
 // How many stops were moved, once per point, how many were elected, and how many script entries were used.
@@ -240,16 +183,9 @@ pub struct PassCounts {
     pub used: u64,
 }
 
-// What a pass answers, or why it was refused.
-#[derive(Clone, Copy)]
-pub enum PassAnswer {
-    Ok(PassCounts),
-    Err(Refusal),
-}
-
 // The answer of a run, and the print path after it.
 #[derive(Clone, Copy)]
 pub struct StopRun {
-    pub answer: PassAnswer,
+    pub answer: Result<PassCounts, Refusal>,
     pub path: PrintPath,
 }

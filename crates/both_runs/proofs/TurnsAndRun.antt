@@ -16,11 +16,11 @@ use Rattle.book.specs.Entries.{elected_words}
 use Rattle.book.specs.Sizes.{most_prices}
 use Rattle.book.specs.TurningPoints.{turning_points, turning_points_call}
 use Rattle.book.specs.declared.Counts.{Counts}
-use Rattle.book.specs.declared.LastPrice.{LastPrice}
 use Rattle.book.specs.declared.Settings.{Settings}
 use Rattle.both_ways.proofs.AlikeWords.{Leaves, decided_words}
 use Rattle.both_ways.specs.Alike.{Decided}
 use Rattle.both_runs.specs.Turns.{walk_listed, turns_call, Comparable}
+use Rattle.std.specs.Prelude.{Option}
 
 ------------------------------------------------------------------------
 -- The prices that are listed
@@ -38,7 +38,7 @@ module _ (ps : List Price) (places n : ℕ) (told : accepted n ≡ (turning_poin
   unfolding written
   listed_inside = rw (h, length-append) (omega (arith, size))
 
-  pub over_listed : (s : Settings) (prev : LastPrice) (w : List ℕ) (elected : ℕ)
+  pub over_listed : (s : Settings) (prev : Option Price) (w : List ℕ) (elected : ℕ)
       → walk_call s prev (map to_price (take n turns)) w elected ≡ turns_call s prev ps places w elected
   unfolding written turns_call walk_listed
   over_listed s prev w elected =
@@ -47,7 +47,7 @@ module _ (ps : List Price) (places n : ℕ) (told : accepted n ≡ (turning_poin
       let e : map to_price (take n turns) ≡ l = ap (λ (m : List ℕ). map to_price m) t ∙ read_back l in
       rw (e, ← told)
 
-pub not_listed : (s : Settings) (prev : LastPrice) (ps : List Price) (places : ℕ) (w : List ℕ) (elected : List (List ℕ))
+pub not_listed : (s : Settings) (prev : Option Price) (ps : List Price) (places : ℕ) (w : List ℕ) (elected : List (List ℕ))
     (k : ℕ) → refused k ≡ (turning_points_call ps places).answer
     → let o = turns_call s prev ps places w (length elected) in (refused k ≡ o.answer) × (w ≡ o.words)
     × (elected ≡ written (map elected_words o.elected) elected)
@@ -58,7 +58,7 @@ not_listed s prev ps places w elected k told = rw (← told) (refl, refl, refl)
 -- The theorem
 
 -- where the turning points are not refused, the walk is over them
-turns-walk : (s : Settings) (prev : LastPrice) (ps : List Price) (places : ℕ) (w : List ℕ) (elected : ℕ) → 1 ≤ length ps
+turns-walk : (s : Settings) (prev : Option Price) (ps : List Price) (places : ℕ) (w : List ℕ) (elected : ℕ) → 1 ≤ length ps
     → length ps ≤ most_prices
     → length ps ≤ places
     → turns_call s prev ps places w elected ≡ walk_call s prev (turning_points ps) w elected
@@ -66,7 +66,7 @@ unfolding turns_call walk_listed turning_points_call decide
 turns-walk s prev ps places w elected h k l = rw (turning_points_accepted ps places h k l)
 
 -- of what the calls answer and leave by their contracts
-pub decided : (s : Settings) (prev : LastPrice) (ps : List Price) (places : ℕ) (w v : List ℕ) (elected listed : List (List ℕ))
+pub decided : (s : Settings) (prev : Option Price) (ps : List Price) (places : ℕ) (w v : List ℕ) (elected listed : List (List ℕ))
     (a b : Answer Counts) (w' v' : List ℕ) (elected' listed' : List (List ℕ))
     → Leaves (turns_call s prev ps places w (length elected)) elected a w' elected'
     → Leaves (walk_call s prev ps v (length listed)) listed b v' listed'

@@ -1,21 +1,20 @@
 -- Document 02, Five, over two calls on lent words: the walk over a run's turning points, and the walk over the run.
-use Rattle.std.specs.Prelude.{ℕ, ◌≤◌, true, List, [], ◌≡◌, length}
+use Rattle.std.specs.Prelude.{ℕ, ◌≤◌, true, List, [], ◌≡◌, length, Option}
 use Rattle.error.specs.Answer.{Answer, refused, accepted}
 use Rattle.pricelevel.specs.declared.Price.{Price}
 use Rattle.book.specs.Calls.{pending_in, WalkOutcome, walk_call}
 use Rattle.book.specs.Sizes.{most_prices}
 use Rattle.book.specs.TurningPoints.{turning_points_call}
 use Rattle.book.specs.Words.{well_formed}
-use Rattle.book.specs.declared.LastPrice.{LastPrice}
 use Rattle.book.specs.declared.Settings.{Settings}
 
 -- the walk over prices that were listed; where that was refused, its number
-unfoldable pub walk_listed : Settings → LastPrice → Answer ℕ → List Price → List ℕ → ℕ → WalkOutcome
+unfoldable pub walk_listed : Settings → Option Price → Answer ℕ → List Price → List ℕ → ℕ → WalkOutcome
 walk_listed s prev (refused k) prices w elected = record { answer = refused k; words = w; elected = [] }
 walk_listed s prev (accepted n) prices w elected = walk_call s prev prices w elected
 
 -- the walk over a run's turning points, for which a list has this many places
-unfoldable pub turns_call : Settings → LastPrice → List Price → ℕ → List ℕ → ℕ → WalkOutcome
+unfoldable pub turns_call : Settings → Option Price → List Price → ℕ → List ℕ → ℕ → WalkOutcome
 turns_call s prev prices places w elected =
     walk_listed s prev (turning_points_call prices places).answer (turning_points_call prices places).listed w elected
 

@@ -13,11 +13,11 @@ use Rattle.book.specs.Entries.{elected_words, moved_words}
 use Rattle.book.specs.Evaluation.{last_of}
 use Rattle.book.specs.Runs.{without_moved}
 use Rattle.book.specs.declared.Counts.{Counts}
-use Rattle.book.specs.declared.LastPrice.{LastPrice}
 use Rattle.book.specs.declared.Settings.{Settings}
 use Rattle.both_ways.specs.Alike.{Decided}
 use Rattle.both_ways.specs.Ends.{ends_call, Comparable}
 use Rattle.both_ways.proofs.AlikeWords.{Leaves, decided_words}
+use Rattle.std.specs.Prelude.{Option}
 
 ------------------------------------------------------------------------
 -- The ends of a run of words
@@ -27,7 +27,7 @@ unfolding last_of
 last_word x [] = refl
 last_word x (y ∷ xs) = last_word y xs
 
-module _ (s : Settings) (prev : LastPrice) (w : List ℕ) (elected moved : List (List ℕ)) where
+module _ (s : Settings) (prev : Option Price) (w : List ℕ) (elected moved : List (List ℕ)) where
   abbrev pub outcome : List ℕ → SegmentOutcome
   outcome ps = ends_call s prev (map to_price ps) w (length elected) (length moved)
 
@@ -65,7 +65,7 @@ module _ (s : Settings) (prev : LastPrice) (w : List ℕ) (elected moved : List 
 -- The theorem
 
 -- of what the calls answer and leave by their contracts
-pub decided : (s : Settings) (prev : LastPrice) (ps : List Price) (w v : List ℕ) (elected moved listed : List (List ℕ))
+pub decided : (s : Settings) (prev : Option Price) (ps : List Price) (w v : List ℕ) (elected moved listed : List (List ℕ))
     (a b : Answer Counts) (w' v' : List ℕ) (elected' listed' : List (List ℕ))
     → Leaves (without_moved (ends_call s prev ps w (length elected) (length moved))) elected a w' elected'
     → Leaves (walk_call s prev ps v (length listed)) listed b v' listed'

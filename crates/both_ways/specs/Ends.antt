@@ -1,5 +1,5 @@
 -- Demand 3 over two calls on lent words: the segment over a run's ends, and the walk over the run.
-use Rattle.std.specs.Prelude.{ℕ, ◌*◌, ◌≤◌, true, List, [], ◌∷◌, ◌≡◌, length}
+use Rattle.std.specs.Prelude.{ℕ, ◌*◌, ◌≤◌, true, List, [], ◌∷◌, ◌≡◌, length, Option}
 use Rattle.error.specs.Answer.{refused}
 use Rattle.pricelevel.specs.declared.Price.{Price}
 use Rattle.pricelevel.specs.declared.Side.{Side}
@@ -8,11 +8,10 @@ use Rattle.book.specs.Sizes.{most_prices}
 use Rattle.book.specs.Evaluation.{last_of}
 use Rattle.book.specs.Runs.{Monotone}
 use Rattle.book.specs.Words.{well_formed}
-use Rattle.book.specs.declared.LastPrice.{LastPrice}
 use Rattle.book.specs.declared.Settings.{Settings}
 
 -- the segment over a run's ends; a run of no prices has none, and is refused with the walk's number
-unfoldable pub ends_call : Settings → LastPrice → List Price → List ℕ → ℕ → ℕ → SegmentOutcome
+unfoldable pub ends_call : Settings → Option Price → List Price → List ℕ → ℕ → ℕ → SegmentOutcome
 ends_call s prev [] w elected moved = record { answer = refused 16; words = w; elected = []; moved = [] }
 ends_call s prev (p ∷ ps) w elected moved = segment_call s (record { prev = prev; first = p; last = last_of p ps }) w elected moved
 

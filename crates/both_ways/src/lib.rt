@@ -7,11 +7,11 @@ ghost use Rattle.std.specs.Prelude.{map, ◌≡◌, length};
 ghost use Rattle.both_ways.specs.Alike.{Decided};
 ghost use Rattle.both_ways.specs.Ends.{ends_call, Comparable};
 ghost use Rattle.book.specs.Calls.{written, walk_call};
-ghost use Rattle.book.specs.Answers.{told_counts};
+ghost use Rattle.error.specs.Answer.{told_answer};
 ghost use Rattle.book.specs.Entries.{elected_words, moved_words};
 ghost use Rattle.pricelevel.specs.Price.{to_price};
 
-use book::{ElectedWords, EvaluationAnswer, LastPrice, MovedWords, PrintSegment, Settings};
+use book::{Counts, ElectedWords, MovedWords, PrintSegment, Settings};
 use error::Refusal;
 use evaluate_segment::segment;
 use evaluate_walk::walk;
@@ -21,21 +21,21 @@ use pricelevel::Price;
 fn over_ends(
     s: &mut [u64],
     settings: Settings,
-    prev: LastPrice,
+    prev: Option<Price>,
     prices: &[u64],
     elected: &mut [ElectedWords],
     moved: &mut [MovedWords],
-) -> EvaluationAnswer
+) -> Result<Counts, Refusal>
     ensures { let o = ends_call settings prev (map to_price prices.now) s.old
         (length elected.old) (length moved.old) in
-        (told_counts result ≡ o.answer)
+        (told_answer result ≡ o.answer)
         × (s.new ≡ o.words)
         × (elected.new ≡ written (map elected_words o.elected) elected.old)
         × (moved.new ≡ written (map moved_words o.moved) moved.old) }
 {
     let count = prices.len();
     if count == 0 {
-        return EvaluationAnswer::Err(Refusal::PriceCountOutOfRange);
+        return Err(Refusal::PriceCountOutOfRange);
     }
     let first = Price(prices[0]);
     let last = Price(prices[count - 1]);
@@ -50,8 +50,8 @@ fn over_ends(
 // What the segment over the ends answers, and what the walk.
 #[derive(Clone, Copy)]
 pub struct BothWays {
-    pub ends: EvaluationAnswer,
-    pub run: EvaluationAnswer,
+    pub ends: Result<Counts, Refusal>,
+    pub run: Result<Counts, Refusal>,
 }
 
 // Evaluates a run of prices on one store by its ends and on the other price by price. Where the two stores are equal
@@ -61,7 +61,7 @@ pub fn evaluate_both_ways(
     ends: &mut [u64],
     run: &mut [u64],
     settings: Settings,
-    prev: LastPrice,
+    prev: Option<Price>,
     prices: &[u64],
     elected: &mut [ElectedWords],
     moved: &mut [MovedWords],
@@ -69,16 +69,16 @@ pub fn evaluate_both_ways(
 ) -> BothWays
     ensures decided { Comparable (map to_price prices.now) ends.old run.old (length elected.old)
         (length moved.old) (length listed.old)
-        → Decided (told_counts result.ends) (told_counts result.run) ends.new run.new elected.new
+        → Decided (told_answer result.ends) (told_answer result.run) ends.new run.new elected.new
         listed.new }
     ensures fact { let o = ends_call settings prev (map to_price prices.now) ends.old
         (length elected.old) (length moved.old) in
-        (told_counts result.ends ≡ o.answer)
+        (told_answer result.ends ≡ o.answer)
         × (ends.new ≡ o.words)
         × (elected.new ≡ written (map elected_words o.elected) elected.old)
         × (moved.new ≡ written (map moved_words o.moved) moved.old) }
     ensures fact_2 { let o = walk_call settings prev (map to_price prices.now) run.old (length listed.old) in
-        (told_counts result.run ≡ o.answer)
+        (told_answer result.run ≡ o.answer)
         × (run.new ≡ o.words)
         × (listed.new ≡ written (map elected_words o.elected) listed.old) }
 {

@@ -37,8 +37,7 @@ fn walk_formed(s: &[u64], n: u64, k: StoreChain, count: u64) -> bool
     let link = next_of(k);
     let mut p = start_of(k);
     let mut q: u64 = 0;
-    let mut left = count;
-    while left > 0 {
+    for _seen in 0..count {
         let j = s[p];
         if j < 1 {
             return false;
@@ -55,7 +54,6 @@ fn walk_formed(s: &[u64], n: u64, k: StoreChain, count: u64) -> bool
         }
         p = cell(j, link);
         q = j;
-        left = left - 1;
     }
     s[p] == 0
 }

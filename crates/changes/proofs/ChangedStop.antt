@@ -3,7 +3,6 @@ use Prim.Native.Nat.{ℕ, ◌+◌, ◌-◌, ◌<◌, ◌^◌}
 use mathlib.Core.Path.{◌≡◌, refl, sym, ap, ◌∙◌}
 use mathlib.Core.Bool.{true, false, cond}
 use mathlib.Core.List.{List}
-use mathlib.Core.Option.{Option, none, some}
 use lib.ListN.{get_or}
 use Rattle.error.specs.Answer.{refused, accepted}
 use Rattle.pricelevel.specs.declared.Id.{Id}
@@ -15,22 +14,23 @@ use Rattle.book.specs.Book.{Book, Pending, held}
 use Rattle.error.specs.Questions.{first_no, decide}
 use Rattle.book.specs.Store.{StoreOutcome, stored_book, lookup, cancel_found, cancel, takes_sequence, cancels, change_questions, changed_entry, changed, change_found, update_found, update}
 use Rattle.book.specs.Words.{entry_at, book_of, well_formed}
-use Rattle.book.specs.declared.LastPrice.{LastPrice}
 use Rattle.book.specs.declared.OrderUpdate.{OrderUpdate}
 use Rattle.book.specs.declared.StopEntry.{StopEntry}
 use Rattle.pending_stops.proofs.Found.{beyond, stored_words, Found, found_entry}
 use Rattle.pending_stops.specs.Stored.{Stored, replaced}
 use Rattle.admission.proofs.AdmissionQuestions.{next_word_lem}
+use Rattle.std.specs.Prelude.{None, Option, Some}
+use Rattle.pricelevel.specs.declared.Price.{Price}
 
 -- the answer and the words of one outcome
 pub outcome_parts : {A : Type 0} (o p : StoreOutcome A) → o ≡ p → (p.answer ≡ o.answer) × (p.words ≡ o.words)
 outcome_parts o p e = (rw e, rw e)
 
-module _ (change : OrderUpdate) (id : Id) (trade : LastPrice) (w : List ℕ) where
+module _ (change : OrderUpdate) (id : Id) (trade : Option Price) (w : List ℕ) where
   cancels_found : cancels change ≡ true → (x : Option Pending) → update_found change trade x w ≡ cancel_found x w
   unfolding update_found cancel_found
-  cancels_found e none = refl
-  cancels_found e (some p) = rw e
+  cancels_found e None = refl
+  cancels_found e (Some p) = rw e
 
   pub update-cancels : cancels change ≡ true → update change id trade w ≡ cancel id w
   unfolding update cancel
@@ -40,7 +40,7 @@ module _ (change : OrderUpdate) (id : Id) (trade : LastPrice) (w : List ℕ) whe
   unfolding update first_no decide
   update_unformed e = rw e
 
-  pub update-missing : well_formed w ≡ true → lookup id (book_of w) ≡ none → update change id trade w ≡ record {
+  pub update-missing : well_formed w ≡ true → lookup id (book_of w) ≡ None → update change id trade w ≡ record {
     answer = refused 12;
     words = w;
   }
@@ -59,12 +59,12 @@ module _ (change : OrderUpdate) (id : Id) (trade : LastPrice) (w : List ℕ) whe
       entry_read : t ≡ f.entry
       entry_read = read ∙ found_entry w e id i f
 
-      pub update_refused : (k : ℕ) → some k ≡ first_no (change_questions change trade t b)
+      pub update_refused : (k : ℕ) → Some k ≡ first_no (change_questions change trade t b)
           → update change id trade w ≡ record { answer = refused k; words = w }
       unfolding update first_no decide update_found change_found
       update_refused k h = rw (e, f.looked, others, ← entry_read, ← h)
 
-      module _ (h : none ≡ first_no (change_questions change trade t b)) (new : StopEntry)
+      module _ (h : None ≡ first_no (change_questions change trade t b)) (new : StopEntry)
           (is : new ≡ changed_entry change t b) (next : ℕ)
           (after : next ≡ cond (takes_sequence change) (get_or w 2 0 + 1) (get_or w 2 0)) where
         changeable : Changeable change f.entry b
@@ -88,7 +88,7 @@ module _ (change : OrderUpdate) (id : Id) (trade : LastPrice) (w : List ℕ) whe
         }
         unfolding update first_no decide update_found change_found
         update_accepted =
-            let asked : first_no (change_questions change trade f.entry b) ≡ none = rw (← entry_read) (sym h) in
+            let asked : first_no (change_questions change trade f.entry b) ≡ None = rw (← entry_read) (sym h) in
             rw (e, f.looked, others, asked)
 
         pub update_done : (u : List ℕ) → Stored (get_or w 0 0) u (replaced i new next b) (beyond w)

@@ -8,18 +8,18 @@ ghost use Rattle.error.specs.Questions.{first_no};
 ghost use Rattle.book.specs.Store.{cancels, change_questions};
 ghost use Rattle.book.specs.Store as store;
 ghost use Rattle.error.specs.Verdict.{told_verdict};
-ghost use Rattle.book.specs.Answers.{told_stop};
+ghost use Rattle.error.specs.Answer.{told_answer};
 
 use admission::{not_triggered, within_watermark};
-use book::{LastPrice, OrderUpdate, StopAnswer, StopEntry};
-use error::{Refusal, Verdict};
+use book::{OrderUpdate, StopEntry};
+use error::{Ask, Refusal};
 use form::well_formed;
 use order_update::{
     cancels, changed_entry, changed_quantity, changed_terms, differs_in_price, next_after,
     sequence_left,
 };
 use pending_stops::change;
-use pricelevel::Id;
+use pricelevel::{Id, Price};
 use store_calls::cancel_pending_stop;
 use stored_stops::{entry_at, find_id};
 
@@ -27,12 +27,17 @@ use stored_stops::{entry_at, find_id};
 // Cancel and change
 
 // The questions of a change of a pending stop, in a book with this next sequence: 13, 4, 6, 7, 11.
-fn ask_change(update: OrderUpdate, trade: LastPrice, t: StopEntry, next: u64) -> Verdict
+fn ask_change(
+    update: OrderUpdate,
+    trade: Option<Price>,
+    t: StopEntry,
+    next: u64,
+) -> Result<(), Refusal>
     ensures { (b : Book) → b.next ≡ next → told_verdict result ≡ first_no (change_questions update trade t b) }
 {
     let quantity = changed_quantity(update, t);
     let terms = changed_terms(update, t);
-    Verdict::Accepted
+    Ok(())
         .ask(differs_in_price(update, t), Refusal::SamePrice)
         .ask(quantity.0 >= 1, Refusal::ZeroQuantity)
         .ask(within_watermark(terms), Refusal::StopBeyondWatermark)
@@ -47,34 +52,29 @@ pub fn update_pending_stop(
     s: &mut [u64],
     id: Id,
     update: OrderUpdate,
-    trade: LastPrice,
-) -> StopAnswer
-    ensures result_value { told_stop result ≡ (store.update update id trade s.old).answer }
+    trade: Option<Price>,
+) -> Result<StopEntry, Refusal>
+    ensures result_value { told_answer result ≡ (store.update update id trade s.old).answer }
     ensures s_after { s.new ≡ (store.update update id trade s.old).words }
 {
     if cancels(update) {
         return cancel_pending_stop(s, id);
     }
     if !well_formed(&s[..]) {
-        return StopAnswer::Err(Refusal::StoreNotWellFormed);
+        return Err(Refusal::StoreNotWellFormed);
     }
     let n = s[0];
     let at = find_id(&s[..], n, id);
     if at == 0 {
-        return StopAnswer::Err(Refusal::OrderNotFound);
+        return Err(Refusal::OrderNotFound);
     }
     let t = entry_at(&s[..], n, at);
     let next = s[2];
-    let verdict = ask_change(update, trade, t, next);
-    match verdict {
-        Verdict::Refused(e) => StopAnswer::Err(e),
-        Verdict::Accepted => {
-            let terms = t.terms;
-            let side = terms.side;
-            let new = changed_entry(update, t, next);
-            let after = next_after(update, next);
-            change(s, n, at, side, new, after);
-            StopAnswer::Ok(new)
-        }
-    }
+    ask_change(update, trade, t, next)?;
+    let terms = t.terms;
+    let side = terms.side;
+    let new = changed_entry(update, t, next);
+    let after = next_after(update, next);
+    change(s, n, at, side, new, after);
+    Ok(new)
 }

@@ -11,7 +11,6 @@ use Rattle.pricelevel.specs.declared.Id.{Id}
 use Rattle.pricelevel.specs.declared.IdKind.{IdKind}
 use Rattle.pricelevel.specs.declared.Side.{Side}
 use Rattle.stop_protection.specs.Collar.{limit_under, limit_words}
-use Rattle.stop_protection.specs.declared.Limit.{Limit}
 use Rattle.stop_trigger.specs.Child.{child_id}
 use Rattle.book.proofs.ReadBack.{kind_of-number, side_from-number}
 use Rattle.book.proofs.WellFormed.{layout-well_formed}
@@ -19,7 +18,6 @@ use Rattle.book.specs.Book.{Book, side_of}
 use Rattle.book.specs.Calls.{elected_entry}
 use Rattle.book.specs.Evaluation.{Fill}
 use Rattle.book.specs.Store.{lookup, is_pending}
-use Rattle.book.specs.Lists.{is_some}
 use Rattle.book.specs.Words.{kind_of, side_from, book_of, well_formed}
 use Rattle.book.specs.declared.Settings.{Settings}
 use Rattle.pending_stops.proofs.Found.{missing, found}
@@ -30,6 +28,8 @@ use Rattle.listing.proofs.Sets.{changed, changed_sets}
 use Rattle.listing.proofs.Walked.{stored_book_lem}
 use Rattle.book.specs.Entries.{elected_words}
 use Rattle.listing.specs.ChainEntries.{fill_words, completed}
+use Rattle.std.specs.Prelude.{Option, is_some}
+use Rattle.stop_protection.specs.declared.LimitPrice.{LimitPrice}
 
 ------------------------------------------------------------------------
 -- Whether an identity is pending
@@ -43,11 +43,11 @@ module _ {n : ℕ} {w : List ℕ} {b : Book} {r : List ℕ} (st : Stored n w b r
 
   module _ (id : Id) (i : ℕ) (e : i ≡ index_or0 (lookup id (book_of w))) where
     pub pending_none : i ≡ 0 → ◌≡◌ {A = ℕ} 0 (cond (is_pending id b) 1 0)
-    unfolding is_pending is_some
+    unfolding is_pending
     pending_none z = rw (missing id b i (rw (stored_book_lem st) at e) z)
 
     pub pending_one : i ≢ 0 → ◌≡◌ {A = ℕ} 1 (cond (is_pending id b) 1 0)
-    unfolding is_pending is_some
+    unfolding is_pending
     pending_one z = rw (found id b i (rw (stored_book_lem st) at e) z).looked
 
 ------------------------------------------------------------------------
@@ -60,7 +60,7 @@ unfolding completed fill_words elected_words elected_entry
 completed_fill s b f = rw (kind_of-number f.stop.id.kind, side_from-number (side_of f.stop))
 
 -- as the code makes it of what its parts tell
-pub completed_words : (s : Settings) (b : Book) (e : List ℕ) (kind : IdKind) (side : Side) (l : Limit) (child : Id)
+pub completed_words : (s : Settings) (b : Book) (e : List ℕ) (kind : IdKind) (side : Side) (l : Option LimitPrice) (child : Id)
     (words : List ℕ) (pending : ℕ)
     → kind ≡ kind_of (get_or e 0 0) → side ≡ side_from (get_or e 3 0) → l ≡ limit_under s.protection side (record {
       0 = get_or e 4 0;

@@ -14,6 +14,7 @@ ghost use Rattle.pending_stops.specs.Stored.{Stored};
 
 use book::{ElectedWords, Settings};
 use pricelevel::{Id, Price};
+use stop_protection::{limit_under, limit_words};
 use stop_trigger::stop_trigger_order_id;
 use stored_stops::{find_id, kind_of, side_from};
 
@@ -46,11 +47,11 @@ fn complete_entry(s: &[u64], n: u64, settings: Settings, list: &mut [ElectedWord
         low: e[2],
     };
     let protection = settings.protection;
-    let limit = protection.limit(side_from(e[3]), Price(e[4]));
+    let limit = limit_under(protection, side_from(e[3]), Price(e[4]));
     let namespace = settings.namespace;
     let child = stop_trigger_order_id(namespace, id);
     let pending = pending_word(s, n, child);
-    let words = limit.words();
+    let words = limit_words(limit);
     list[at] = [
         e[0], e[1], e[2], e[3], e[4], e[5], e[6], e[7], words[0], words[1], words[2], child.high,
         child.low, pending,
@@ -73,9 +74,7 @@ pub fn complete(
         → list.old ≡ sets l from (map fill_words fs) → to ≡ from + length fs
         → list.new ≡ sets list.old from (map (λ f. elected_words (elected_entry settings b f)) fs) }
 {
-    let mut at = from;
-    while at < to {
+    for at in from..to {
         complete_entry(s, n, settings, list, at);
-        at += 1;
     }
 }

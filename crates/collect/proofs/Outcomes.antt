@@ -3,7 +3,6 @@ use Prim.Native.Nat.{ℕ, ◌≤◌}
 use mathlib.Core.Path.{◌≡◌, refl, sym, ap, ◌∙◌}
 use mathlib.Core.Bool.{true}
 use mathlib.Core.List.{List, [], map}
-use mathlib.Core.Option.{none, some}
 use borrow.Author.Tests.{leb-true}
 use lib.ListN.{length, length-map}
 use Rattle.error.specs.Answer.{refused, accepted}
@@ -16,8 +15,9 @@ use Rattle.book.specs.Collect.{selected, collect_questions, CollectOutcome}
 use Rattle.book.specs.Words.{book_of, well_formed}
 use Rattle.book.specs.declared.Selector.{Selector}
 use Rattle.by_sequence.specs.Begins.{Begins}
+use Rattle.std.specs.Prelude.{None, Some}
 
-module _ (w : List ℕ) (list : ℕ) (h : none ≡ first_no (collect_questions w list)) where
+module _ (w : List ℕ) (list : ℕ) (h : None ≡ first_no (collect_questions w list)) where
   pub collect-formed : well_formed w ≡ true
   unfolding collect_questions
   collect-formed = (first_no_none (collect_questions w list) (sym h)).0
@@ -41,12 +41,12 @@ module _ (selector : Selector) (w words : List ℕ) (list : List (List ℕ)) whe
   abbrev called : CollectOutcome
   called = outcome selector w (length list) words
 
-  pub called_refused : (k : ℕ) → some k ≡ first_no (collect_questions w (length list))
+  pub called_refused : (k : ℕ) → Some k ≡ first_no (collect_questions w (length list))
       → (refused k ≡ called.answer) × (w ≡ called.words) × (list ≡ written (map stop_words called.listed) list)
   unfolding decide written
   called_refused k h = rw (← h) (refl, refl, refl)
 
-  pub called_done : (m : ℕ) (o : List ℕ) (after : List (List ℕ)) → none ≡ first_no (collect_questions w (length list))
+  pub called_done : (m : ℕ) (o : List ℕ) (after : List (List ℕ)) → None ≡ first_no (collect_questions w (length list))
       → Begins o m (indices (selected selector (book_of w).slots))
       → after ≡ written (map stop_words (entries (selected selector (book_of w).slots))) list
       → (accepted m ≡ called.answer) × (words ≡ called.words)

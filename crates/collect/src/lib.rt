@@ -3,7 +3,7 @@
 #![tactic(auto)]
 
 ghost use Rattle.std.specs.Prelude.{map, ◌≡◌, ◌≤◌, length};
-ghost use Rattle.book.specs.Answers.{told_list};
+ghost use Rattle.error.specs.Answer.{told_answer};
 ghost use Rattle.book.specs.Book.{entries, indices, pending_count};
 ghost use Rattle.book.specs.Calls.{written};
 ghost use Rattle.book.specs.Entries.{stop_words};
@@ -14,21 +14,21 @@ ghost use Rattle.chains.specs.Records.{Room};
 ghost use Rattle.error.specs.Questions.{first_no};
 ghost use Rattle.error.specs.Verdict.{told_verdict};
 
-use book::{ListAnswer, MOST_RECORDS, Selector, StopWords};
+use book::{MOST_RECORDS, Selector, StopWords};
 use by_sequence::by_sequence;
-use error::{Refusal, Verdict};
+use error::{Ask, Refusal};
 use form::well_formed;
 use selecting::{keep_selected, list_records};
 
 // The questions of collect and of mass cancel: 1, 14.
-pub fn ask_collect(s: &[u64], list: usize) -> Verdict
+pub fn ask_collect(s: &[u64], list: usize) -> Result<(), Refusal>
     ensures { told_verdict result ≡ first_no (collect_questions s.now list) }
 {
     if !well_formed(s) {
-        return Verdict::Refused(Refusal::StoreNotWellFormed);
+        return Err(Refusal::StoreNotWellFormed);
     }
     let count = s[1] as usize;
-    Verdict::Accepted.ask(list >= count, Refusal::ListTooShort)
+    Ok(()).ask(list >= count, Refusal::ListTooShort)
 }
 
 // Writes the entries of the stops that a selector takes, by rising sequence, from the start of the list, and the indices
@@ -53,19 +53,14 @@ pub fn list_selected(
 
 // Lists the pending stops that a selector takes, by rising sequence, from the start of the list; later entries stay.
 // Refused: the store is not well formed (1); the list is shorter than the pending count (14).
-pub fn collect(s: &[u64], selector: Selector, list: &mut [StopWords]) -> ListAnswer
+pub fn collect(s: &[u64], selector: Selector, list: &mut [StopWords]) -> Result<u64, Refusal>
     ensures { let o = collect selector s.now (length list.old) in
-        (told_list result ≡ o.answer)
+        (told_answer result ≡ o.answer)
         × (list.new ≡ written (map stop_words o.listed) list.old) }
 {
-    let verdict = ask_collect(s, list.len());
-    match verdict {
-        Verdict::Refused(e) => ListAnswer::Err(e),
-        Verdict::Accepted => {
-            let mut order = [0u64; MOST_RECORDS];
-            let n = s[0];
-            let m = list_selected(s, n, selector, &mut order[..], list);
-            ListAnswer::Ok(m as u64)
-        }
-    }
+    ask_collect(s, list.len())?;
+    let mut order = [0u64; MOST_RECORDS];
+    let n = s[0];
+    let m = list_selected(s, n, selector, &mut order[..], list);
+    Ok(m as u64)
 }

@@ -2,11 +2,9 @@
 #![tactic(auto)]
 
 ghost use Rattle.std.specs.Prelude.{◌≡◌};
-ghost use Rattle.book.specs.Answers.{told_list};
-ghost use Rattle.host_words.specs.Answers.{Told, listed_words};
 ghost use Rattle.host_words.specs.Arguments.{selector_known, selector_of};
 
-use book::{ListAnswer, Selector};
+use book::Selector;
 use host_words::SelectorWords;
 use pricelevel::{Holder, Price};
 use stored_stops::side_from;
@@ -33,17 +31,5 @@ pub fn selector_of(w: &SelectorWords) -> Selector
         0 => Selector::ByHolder(holder),
         1 => Selector::BySide(side_from(w[1])),
         _ => Selector::ByPriceRange(lowest, highest),
-    }
-}
-
-pub fn of_list(r: ListAnswer, answer: &mut [u64; 1]) -> u64
-    ensures { Told listed_words (told_list r) answer.old result answer.new }
-{
-    match r {
-        ListAnswer::Ok(n) => {
-            *answer = [n];
-            0
-        }
-        ListAnswer::Err(e) => e.number(),
     }
 }

@@ -15,10 +15,8 @@ pub fn copy(a: &mut [u64], t: &[u64])
     requires { length a.old ≤ length t.now }
     ensures { a.new ≡ take (length a.old) t.now }
 {
-    let mut i: usize = 0;
-    while i < a.len() {
+    for i in 0..a.len() {
         a[i] = t[i];
-        i += 1;
     }
 }
 

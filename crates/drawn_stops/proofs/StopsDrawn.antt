@@ -3,7 +3,6 @@ use Prim.Native.Nat.{ℕ, ◌-◌, ◌≤◌}
 use mathlib.Core.Path.{◌≡◌, refl}
 use mathlib.Core.Bool.{Bool, true, not, ◌||◌}
 use mathlib.Core.List.{List, [], ◌∷◌}
-use mathlib.Core.Option.{some}
 use borrow.Table.Steps.{cases}
 use lib.Dec.{eqb}
 use lib.ListN.{get_or}
@@ -34,7 +33,6 @@ use Rattle.book.specs.Valid.{Valid, Fits}
 use Rattle.book.specs.Words.{book_of, well_formed}
 use Rattle.book.specs.declared.Counts.{Counts}
 use Rattle.book.specs.declared.Elected.{Elected}
-use Rattle.book.specs.declared.LastPrice.{LastPrice}
 use Rattle.book.specs.declared.Moved.{Moved}
 use Rattle.book.specs.declared.PrintPath.{PrintPath}
 use Rattle.book.specs.declared.PrintSegment.{PrintSegment}
@@ -44,6 +42,7 @@ use Rattle.drawn_stops.specs.Drawn.{Followed, pending, elected, followed, LeftAs
 use Rattle.drawn_stops.proofs.Courses.{Listed, Courses, courses_none, points_courses, pass_courses}
 use Rattle.drawn_stops.proofs.Drawing.{drawn_pending, drawn_elected}
 use Rattle.drawn_stops.proofs.OneStop.{Course}
+use Rattle.std.specs.Prelude.{Option, Some}
 
 ------------------------------------------------------------------------
 -- From the courses of a book's stops to what is found and listed
@@ -52,7 +51,7 @@ module _ (kill : Bool) (prices : List Price) (w : List ℕ) (formed : well_forme
   -- the stop of a course is found under its identity
   course_found : (i : ℕ) (id : Id) (f : Followed) → 1 ≤ i
       → (c : Course kill prices (get_or (book_of w).slots (i - 1) vacant) id f)
-      → find id w ≡ accepted (some c.before)
+      → find id w ≡ accepted (Some c.before)
   course_found i id f from c =
       rw c.is_same_id (held-find w c.before formed (record { index = i; from = from; there = c.was }))
 
@@ -113,7 +112,7 @@ points_drawn s prices w o formed fits r =
 -- So does every panel that drew it right before the call, and where it is pending still draws it right, so that this
 -- goes on from call to call. Prices are 64-bit words.
 module _ (s : Settings) (w : List ℕ) (room : ℕ) where
-  pub walk_drawn : (prev : LastPrice) (prices : List Price) → All PriceFits prices
+  pub walk_drawn : (prev : Option Price) (prices : List Price) → All PriceFits prices
       → Accepted (walk_call s prev prices w room).answer
       → StopsDrawnRight s.kill prices w (walk_call s prev prices w room).words
       (walk_call s prev prices w room).elected
@@ -136,7 +135,7 @@ module _ (s : Settings) (w : List ℕ) (room : ℕ) where
       (first_no_none (segment_questions w room moved) e).0 (segment_prices_fits prints fits)
       (segment_points s.kill prints (book_of w)))
 
-  pub step_drawn : (falls : Bool) (from : LastPrice) (price : Price) (moved : ℕ) → PriceFits price
+  pub step_drawn : (falls : Bool) (from : Option Price) (price : Price) (moved : ℕ) → PriceFits price
       → Accepted (step_call s falls from price w room moved).answer
       → StopsDrawnRight s.kill (price ∷ []) w (step_call s falls from price w room moved).words
       (step_call s falls from price w room moved).elected
@@ -170,7 +169,7 @@ module _ (s : Settings) (w : List ℕ) (room : ℕ) where
         (λ k. refl)
         (λ e a. passed_drawn prints fits (first_no_none (pass_questions script w room) e).0)
 
-    pub run_drawn : (trade : LastPrice) (path : PrintPath) → PriceFits path.first → TradeFits trade
+    pub run_drawn : (trade : Option Price) (path : PrintPath) → PriceFits path.first → TradeFits trade
         → Accepted (run_call s script trade w room path).answer
         → StopsDrawnRight s.kill (run_prices s script trade w path) w
         (run_call s script trade w room path).words (run_call s script trade w room path).elected

@@ -1,7 +1,6 @@
 -- The stops of a store beside those that a panel draws from the preview, along the prices of a call that evaluates:
 -- document 02, Two.
-use Rattle.std.specs.Prelude.{ℕ, zero, suc, ◌≡◌, Bool, not, cond, ◌&&◌, ◌||◌, List, [], ◌∷◌, ◌++◌, eqb}
-use Rattle.std.proofs.Math.Option.{some}
+use Rattle.std.specs.Prelude.{ℕ, zero, suc, ◌≡◌, Bool, not, cond, ◌&&◌, ◌||◌, List, [], ◌∷◌, ◌++◌, eqb, Option, Some}
 use Rattle.error.specs.Answer.{accepted}
 use Rattle.pricelevel.specs.declared.Id.{Id}
 use Rattle.pricelevel.specs.declared.Price.{Price}
@@ -16,7 +15,6 @@ use Rattle.book.specs.Path.{segment_of}
 use Rattle.book.specs.Store.{find}
 use Rattle.book.specs.Words.{book_of}
 use Rattle.book.specs.declared.Elected.{Elected}
-use Rattle.book.specs.declared.LastPrice.{LastPrice}
 use Rattle.book.specs.declared.PrintPath.{PrintPath}
 use Rattle.book.specs.declared.PrintSegment.{PrintSegment}
 use Rattle.book.specs.declared.Settings.{Settings}
@@ -43,7 +41,7 @@ followed next kill t (p ∷ ps) =
 -- starts from its terms, draws it right afterwards: as pending, at the stop that it has
 pub record LeftAsDrawn (kill : Bool) (prices : List Price) (w : List ℕ) (t : StopEntry) : Type 0 where
   pub before : StopEntry
-  pub found : find t.id w ≡ accepted (some before)
+  pub found : find t.id w ≡ accepted (Some before)
   pub drawn : (panel : StopTerms) → DrawsRight before.terms panel
       → (u : StopTerms) × (followed previewed_at kill panel prices ≡ pending u) × DrawsRight t.terms u
 
@@ -51,13 +49,13 @@ pub record LeftAsDrawn (kill : Bool) (prices : List Price) (w : List ℕ) (t : S
 -- before draws it as elected by the price that triggered it, at the stop that the entry has
 pub record ElectedAsDrawn (kill : Bool) (prices : List Price) (w : List ℕ) (e : Elected) : Type 0 where
   pub before : StopEntry
-  pub found : find e.id w ≡ accepted (some before)
+  pub found : find e.id w ≡ accepted (Some before)
   pub drawn : (panel : StopTerms) → DrawsRight before.terms panel
       → (u : StopTerms) × (followed previewed_at kill panel prices ≡ elected u e.trigger) × (u.stop ≡ e.stop)
 
 -- every stop that is found in the store after it, and every entry
 pub record StopsDrawnRight (kill : Bool) (prices : List Price) (w after : List ℕ) (entries : List Elected) : Type 0 where
-  pub left : (id : Id) (t : StopEntry) → find id after ≡ accepted (some t) → LeftAsDrawn kill prices w t
+  pub left : (id : Id) (t : StopEntry) → find id after ≡ accepted (Some t) → LeftAsDrawn kill prices w t
   pub listed : All (ElectedAsDrawn kill prices w) entries
 
 ------------------------------------------------------------------------
@@ -77,6 +75,6 @@ unfoldable pub pass_prices : Settings → List ℕ → PrintSegment → Book →
 pass_prices s script prints b = pass_prices_from (suc (pending_count b.slots)) s script (prints ∷ []) b
 
 -- none where the run over path and store answers zeros
-unfoldable pub run_prices : Settings → List ℕ → LastPrice → List ℕ → PrintPath → List Price
+unfoldable pub run_prices : Settings → List ℕ → Option Price → List ℕ → PrintPath → List Price
 run_prices s script trade w path =
     cond (eqb (pending_in w) 0 || not path.«open») [] (pass_prices s script (segment_of path trade) (book_of w))

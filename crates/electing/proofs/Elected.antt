@@ -4,7 +4,6 @@ use Prim.Native.Nat.{ℕ}
 use mathlib.Core.Path.{◌≡◌, refl, sym, ap, ◌∙◌}
 use mathlib.Core.Bool.{true, false, false≢true}
 use mathlib.Core.List.{List, [], ◌∷◌, ◌++◌, cons-ne-nil, map-append}
-use mathlib.Core.Option.{none}
 use borrow.Author.Tests.{not-true, not-false}
 use borrow.Table.Steps.{cases}
 use Rattle.pricelevel.specs.declared.Price.{Price}
@@ -25,6 +24,7 @@ use Rattle.book.specs.declared.StopEntry.{StopEntry}
 use Rattle.chains.proofs.Members.{has_here}
 use Rattle.book.specs.Chains.{Member}
 use Rattle.pending_stops.proofs.ChainChanges.{chain_member}
+use Rattle.std.specs.Prelude.{None}
 
 ------------------------------------------------------------------------
 -- One stop
@@ -42,7 +42,7 @@ held_one : {s : Slot} {t u : StopEntry} → s ≡ held t → s ≡ held u → t 
 held_one p q = cc
 
 -- a record that gives up its stop has none of the side left
-none_left : (d s : Side) (t : StopEntry) → s ≡ side_of t → pending_on d (vacated_by (of_side d s t) (held t)) ≡ none
+none_left : (d s : Side) (t : StopEntry) → s ≡ side_of t → pending_on d (vacated_by (of_side d s t) (held t)) ≡ None
 unfolding pending_on vacated_by of_side
 none_left Sell Sell t e = refl
 none_left Sell Buy t e = rw (← e) refl

@@ -5,7 +5,6 @@ use native.Mathlib.Omega.{arith}
 use mathlib.Core.Path.{◌≡◌, refl, ap}
 use mathlib.Core.Bool.{true, false}
 use mathlib.Core.List.{List, [], ◌∷◌, map, map-id, cons-ne-nil}
-use mathlib.Core.Option.{Option, none, some}
 use borrow.Table.Steps.{cases}
 use lib.ListN.{length}
 use Rattle.pricelevel.specs.declared.Price.{Price}
@@ -24,20 +23,21 @@ use Rattle.book.specs.declared.Chain.TheVariants.{ByStop}
 use Rattle.book.specs.declared.StopEntry.{StopEntry}
 use Rattle.book.specs.Chains.{Member}
 use Rattle.book.specs.Lists.{sort_by, All}
+use Rattle.std.specs.Prelude.{None, Option, Some}
 
 ------------------------------------------------------------------------
 -- Nothing gathered
 
 gather_empty : (choice : Slot → Option StopEntry) (i : ℕ) (ss : List Slot) → gather choice i ss ≡ []
-    → All (λ s. choice s ≡ none) ss
+    → All (λ s. choice s ≡ None) ss
 unfolding gather with_index
 gather_empty choice i [] e = tt
 gather_empty choice i (s ∷ ss) e = go (choice s) refl e (gather_empty choice (suc i) ss)
   where
     go : (o : Option StopEntry) → choice s ≡ o → with_index i o (gather choice (suc i) ss) ≡ []
-        → (gather choice (suc i) ss ≡ [] → All (λ s. choice s ≡ none) ss) → All (λ s. choice s ≡ none) (s ∷ ss)
-    go none q z later = (q, later z)
-    go (some t) q z later = absurd (cons-ne-nil _ _ z)
+        → (gather choice (suc i) ss ≡ [] → All (λ s. choice s ≡ None) ss) → All (λ s. choice s ≡ None) (s ∷ ss)
+    go None q z later = (q, later z)
+    go (Some t) q z later = absurd (cons-ne-nil _ _ z)
 
 sort_empty : (c : Chain) (l : List Pending) → sort c l ≡ [] → l ≡ []
 sort_empty c [] e = refl
@@ -49,11 +49,11 @@ sort_empty c (p ∷ l) e = absurd (omega (arith, sort_by_length (earlier_in c) (
 module _ (side : Side) (price : Price) where
   -- a stop of the side that is elected leaves
   elect_held : (t : StopEntry) → side ≡ side_of t → elected_at t.terms price ≡ true
-      → elect side price (held t) ≡ some t
+      → elect side price (held t) ≡ Some t
   unfolding elect leaving_on of_side
   elect_held t q e = rw (e, q) (go (side_of t))
     where
-      go : (d : Side) → of_side d d t ≡ some t
+      go : (d : Side) → of_side d d t ≡ Some t
       go Sell = refl
       go Buy = refl
 
@@ -67,21 +67,21 @@ module _ (side : Side) (price : Price) where
   stays_vacant = refl
 
   -- what stays is not elected
-  stays-unelected : (s : Slot) → elect side price (stays side price s) ≡ none
+  stays-unelected : (s : Slot) → elect side price (stays side price s) ≡ None
   unfolding stays vacated_by elect
   stays-unelected s = go (elect side price s) refl
     where
-      go : (o : Option StopEntry) → elect side price s ≡ o → elect side price (vacated_by o s) ≡ none
-      go none e = e
-      go (some t) e = refl
+      go : (o : Option StopEntry) → elect side price s ≡ o → elect side price (vacated_by o s) ≡ None
+      go None e = e
+      go (Some t) e = refl
 
   stays_fits : (s : Slot) → SlotFits s → SlotFits (stays side price s)
   unfolding stays vacated_by
   stays_fits s h = go (elect side price s)
     where
       go : (o : Option StopEntry) → SlotFits (vacated_by o s)
-      go none = h
-      go (some t) = tt
+      go None = h
+      go (Some t) = tt
 
   ------------------------------------------------------------------------
   -- A book
@@ -96,7 +96,7 @@ module _ (side : Side) (price : Price) where
   }
 
   module _ (b : Book) (e : elected_in side price b ≡ []) where
-    none-elect : All (λ s. elect side price s ≡ none) b.slots
+    none-elect : All (λ s. elect side price s ≡ None) b.slots
     unfolding elected_in
     none-elect = gather_empty (elect side price) 1 b.slots (sort_empty (ByStop side) _ e)
 
@@ -114,17 +114,17 @@ module _ (side : Side) (price : Price) where
     pub none_member : (j : ℕ) (m : Member side b.slots j) → elected_at m.entry.terms price ≡ false
     unfolding elect
     none_member j m =
-        let none : elect side price (held m.entry) ≡ none =
-        rw m.there at (all_get_d (λ s. elect side price s ≡ none) b.slots (j - 1) vacant refl none-elect) in
+        let None : elect side price (held m.entry) ≡ None =
+        rw m.there at (all_get_d (λ s. elect side price s ≡ None) b.slots (j - 1) vacant refl none-elect) in
         cases (elected_at m.entry.terms price)
-        (λ t. let some = elect_held m.entry m.is_of_side t in let z : ◌≡◌ {A = ℕ} 0 1 = cc in absurd (omega arith))
+        (λ t. let Some = elect_held m.entry m.is_of_side t in let z : ◌≡◌ {A = ℕ} 0 1 = cc in absurd (omega arith))
         (λ t. t)
 
   -- and nothing a second time
   pub taken_again : (b : Book) → taken_on side price (taken_on side price b) ≡ taken_on side price b
   unfolding taken_on elected_in sort_by
   taken_again b =
-      let none : All (λ s. elect side price s ≡ none) (map (stays side price) b.slots) =
+      let None : All (λ s. elect side price s ≡ None) (map (stays side price) b.slots) =
       all_mapped (λ s. Unit {0}) _ (stays side price) (λ s h. stays-unelected s) b.slots
       (all_of (λ s. tt) b.slots) in
-      taken_none (taken_on side price b) (rw (gather_none (elect side price) 1 (map (stays side price) b.slots) none))
+      taken_none (taken_on side price b) (rw (gather_none (elect side price) 1 (map (stays side price) b.slots) None))

@@ -1,6 +1,5 @@
 -- The questions that a call goes through: the first that is answered no gives its number.
-use Rattle.std.specs.Prelude.{ℕ, Bool, cond, List, [], ◌∷◌}
-use Rattle.std.proofs.Math.Option.{Option, none, some}
+use Rattle.std.specs.Prelude.{ℕ, Bool, cond, List, [], ◌∷◌, None, Option, Some}
 
 pub record Question : Type 0 where
   pub number : ℕ
@@ -11,15 +10,15 @@ question number holds = record { number = number; holds = holds }
 
 -- document 01, The questions a call goes through
 unfoldable pub first_no : List Question → Option ℕ
-first_no [] = none
-first_no (q ∷ qs) = cond q.holds (first_no qs) (some q.number)
+first_no [] = None
+first_no (q ∷ qs) = cond q.holds (first_no qs) (Some q.number)
 
 -- what follows: one outcome for a refusal's number, another where every question was answered yes
 unfoldable pub decide : {A : Type 0} → Option ℕ → (ℕ → A) → A → A
-decide none refusal acceptance = acceptance
-decide (some number) refusal acceptance = refusal number
+decide None refusal acceptance = acceptance
+decide (Some number) refusal acceptance = refusal number
 
 -- one question more, after those that came to this: the first no stays
 unfoldable pub asked : Option ℕ → Question → Option ℕ
-asked none q = cond q.holds none (some q.number)
-asked (some number) q = some number
+asked None q = cond q.holds None (Some q.number)
+asked (Some number) q = Some number

@@ -61,25 +61,25 @@ impl Refusal {
     }
 }
 
-// What the questions of a call come to: all are answered yes, or one is the first that is answered no.
-#[derive(Clone, Copy)]
-pub enum Verdict {
-    Accepted,
-    Refused(Refusal),
+// A call's questions, asked one after the other.
+pub trait Ask {
+    // The verdict with one question more.
+    fn ask(self, holds: bool, refusal: Refusal) -> Self;
 }
 
-impl Verdict {
-    // The verdict with one question more, and the refusal that it gives where it is the first that does not hold.
-    pub fn ask(self, holds: bool, refusal: Refusal) -> Verdict
+// What the questions of a call come to: all are answered yes, or one is the first that is answered no.
+impl Ask for Result<(), Refusal> {
+    // One question more, and the refusal that it gives where it is the first that does not hold.
+    fn ask(self, holds: bool, refusal: Refusal) -> Self
         ensures { told_verdict result ≡ asked (told_verdict self) (question (refusal_number refusal) holds) }
     {
         match self {
-            Verdict::Refused(first) => Verdict::Refused(first),
-            Verdict::Accepted => {
+            Err(first) => Err(first),
+            Ok(()) => {
                 if holds {
-                    return Verdict::Accepted;
+                    return Ok(());
                 }
-                Verdict::Refused(refusal)
+                Err(refusal)
             }
         }
     }

@@ -3,12 +3,13 @@
 #![tactic(auto)]
 
 ghost use Rattle.std.specs.Prelude.{map, ◌≡◌, length};
-ghost use Rattle.book.specs.Answers.{told_counts};
+ghost use Rattle.error.specs.Answer.{told_answer};
 ghost use Rattle.book.specs.Calls.{written};
 ghost use Rattle.book.specs.Commit.{ask_call};
 ghost use Rattle.book.specs.Entries.{elected_words, moved_words};
 
-use book::{ElectedWords, EvaluationAnswer, MovedWords, PrintSegment, Settings};
+use book::{Counts, ElectedWords, MovedWords, PrintSegment, Settings};
+use error::Refusal;
 use segment_copy::{segment_on_copy, store_room};
 
 // What a segment would elect and move: both are written from the start of the lists; later entries stay, and so does the
@@ -19,9 +20,9 @@ pub fn ask_segment(
     prints: PrintSegment,
     elected: &mut [ElectedWords],
     moved: &mut [MovedWords],
-) -> EvaluationAnswer
+) -> Result<Counts, Refusal>
     ensures { let o = ask_call settings prints s.now (length elected.old) (length moved.old) in
-        (told_counts result ≡ o.answer)
+        (told_answer result ≡ o.answer)
         × (elected.new ≡ written (map elected_words o.elected) elected.old)
         × (moved.new ≡ written (map moved_words o.moved) moved.old) }
 {

@@ -8,13 +8,12 @@ use borrow.Author.Tests.{le-leb}
 use borrow.Table.Steps.{cases}
 use lib.ListN.{length, take, drop, length-map, length-append}
 use lib.Seq.{take-take, length-take-le}
-use Rattle.error.specs.Answer.{refused, accepted}
+use Rattle.error.specs.Answer.{refused, accepted, told_answer}
 use Rattle.error.specs.Questions.{first_no, decide}
 use Rattle.error.specs.Refusal.{refusal_number}
 use Rattle.error.specs.declared.Refusal.{Refusal}
 use Rattle.error.specs.declared.Refusal.TheVariants.{ListsDiffer}
 use Rattle.book.proofs.AskedCommitted.{given, shifted, commit_same, commit-other}
-use Rattle.book.specs.Answers.{told_counts}
 use Rattle.book.specs.Calls.{SegmentOutcome, elected_entry, elected_entries, written, counts_of, pending_in, segment_questions, segment_call}
 use Rattle.book.specs.Commit.{same_words, commit_questions, commit_call}
 use Rattle.book.specs.Entries.{elected_words, moved_words}
@@ -24,12 +23,11 @@ use Rattle.book.specs.Sizes.{most_records}
 use Rattle.book.specs.Store.{StoreOutcome, stored_book}
 use Rattle.book.specs.Words.{book_of, well_formed}
 use Rattle.book.specs.declared.Counts.{Counts}
-use Rattle.book.specs.declared.EvaluationAnswer.{EvaluationAnswer}
-use Rattle.book.specs.declared.EvaluationAnswer.TheVariants as evaluation
 use Rattle.book.specs.declared.PrintSegment.{PrintSegment}
 use Rattle.book.specs.declared.Settings.{Settings}
 use Rattle.evaluation.proofs.Questions.{count_word, count_few}
 use Rattle.evaluation.proofs.Rooms.{written_taken}
+use Rattle.std.specs.Prelude.{Err, Ok, Result}
 
 -- the words of the copy written over the store's
 pub written_back : (w copied v : List ℕ) (most many n : ℕ) → many ≤ length copied → many ≡ min most (length w)
@@ -77,21 +75,21 @@ module _ (s : Settings) (prints : PrintSegment) (w : List ℕ) (room-e room-m : 
     commit_damaged e = rw e
 
     -- the segment was refused
-    pub commit_refused : (r : EvaluationAnswer) (e : Refusal) → r ≡ evaluation.Err e → told_counts r ≡ whole.answer
-        → (told_counts r ≡ commit.answer) × (w ≡ commit.words)
-    unfolding told_counts
+    pub commit_refused : (r : Result Counts Refusal) (e : Refusal) → r ≡ Err e → told_answer r ≡ whole.answer
+        → (told_answer r ≡ commit.answer) × (w ≡ commit.words)
+    unfolding told_answer
     commit_refused r e is h = cases (well_formed w)
         (λ f.
         let no : refused (refusal_number e) ≡ accepted (counts_of after) =
-        sym (ap told_counts is) ∙ h ∙ ap (λ o. o.answer) (whole-formed f) in
+        sym (ap told_answer is) ∙ h ∙ ap (λ o. o.answer) (whole-formed f) in
         let z : ◌≡◌ {A = ℕ} 0 1 = cc in
         absurd (omega arith))
         (λ f. rw (commit_damaged f) (h ∙ whole_damaged f, refl))
 
     -- the segment was accepted, with these counts: the store is well formed
-    module _ (c : Counts) (h : told_counts (evaluation.Ok c) ≡ whole.answer) where
+    module _ (c : Counts) (h : told_answer (Ok c) ≡ whole.answer) where
       accepted-formed : (well_formed w ≡ true) × (c ≡ counts_of after)
-      unfolding told_counts
+      unfolding told_answer
       accepted-formed = cases (well_formed w)
           (λ f. let yes : accepted c ≡ accepted (counts_of after) = h ∙ ap (λ o. o.answer) (whole-formed f) in (f, cc))
           (λ f.
@@ -135,14 +133,14 @@ module _ (s : Settings) (prints : PrintSegment) (w : List ℕ) (room-e room-m : 
 
         module _ (r : Bool)
             (is : r ≡ (same_by same_list elected (take c.elected listed-e) && same_by same_list moved (take c.moves listed-m))) where
-          pub commit_differing : r ≡ false → (told_counts (evaluation.Err ListsDiffer) ≡ commit.answer) × (w ≡ commit.words)
-          unfolding told_counts
+          pub commit_differing : r ≡ false → (told_answer (Err ListsDiffer) ≡ commit.answer) × (w ≡ commit.words)
+          unfolding told_answer
           commit_differing n =
               rw (commit-other s prints w (same_words elected moved) accepted-formed.0 (sym lists_same ∙ sym is ∙ n)) (refl, refl)
 
           pub commit_done : r ≡ true → (v : List ℕ) → v ≡ whole.words
-              → (told_counts (evaluation.Ok c) ≡ commit.answer) × (v ≡ commit.words)
-          unfolding told_counts
+              → (told_answer (Ok c) ≡ commit.answer) × (v ≡ commit.words)
+          unfolding told_answer
           commit_done y v words =
               let f = accepted-formed in
               rw (commit_same s prints w (same_words elected moved) f.0 (sym lists_same ∙ sym is ∙ y))

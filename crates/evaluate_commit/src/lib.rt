@@ -3,13 +3,13 @@
 #![tactic(auto)]
 
 ghost use Rattle.std.specs.Prelude.{◌*◌, ◌≡◌, length};
-ghost use Rattle.book.specs.Answers.{told_counts};
+ghost use Rattle.error.specs.Answer.{told_answer};
 ghost use Rattle.book.specs.Commit.{same_words, commit_call};
 ghost use Rattle.book.specs.Sizes.{most_records};
 
 use book::{
-    ELECTED_WORDS, ElectedWords, EvaluationAnswer, MOST_MOVES, MOST_RECORDS, MOVED_WORDS,
-    MovedWords, PrintSegment, Settings,
+    Counts, ELECTED_WORDS, ElectedWords, MOST_MOVES, MOST_RECORDS, MOVED_WORDS, MovedWords,
+    PrintSegment, Settings,
 };
 use copying::copy_start;
 use error::Refusal;
@@ -38,9 +38,9 @@ pub fn commit_segment(
     prints: PrintSegment,
     elected: &[ElectedWords],
     moved: &[MovedWords],
-) -> EvaluationAnswer
+) -> Result<Counts, Refusal>
     ensures { let o = commit_call (same_words elected.now moved.now) settings prints s.old in
-        (told_counts result ≡ o.answer)
+        (told_answer result ≡ o.answer)
         × (s.new ≡ o.words) }
 {
     let mut copied = store_room();
@@ -56,11 +56,11 @@ pub fn commit_segment(
     );
     let answer = o.answer;
     let many = o.many;
-    let EvaluationAnswer::Ok(counts) = answer else {
+    let Ok(counts) = answer else {
         return answer;
     };
     if !are_listed(elected, moved, &listed, &shifted, counts) {
-        return EvaluationAnswer::Err(Refusal::ListsDiffer);
+        return Err(Refusal::ListsDiffer);
     }
     copy_start(s, &copied[..many]);
     answer

@@ -2,30 +2,28 @@
 // segments of its queue. A refused call alters nothing.
 #![tactic(auto)]
 
-ghost use Rattle.std.specs.Prelude.{map, ◌≡◌, length};
-ghost use Rattle.std.proofs.Math.Option.{none};
+ghost use Rattle.std.specs.Prelude.{None, map, ◌≡◌, length};
 ghost use Rattle.book.specs.Calls.{written, pass_questions, passed, pass_call};
 ghost use Rattle.error.specs.Questions.{first_no};
-ghost use Rattle.error.specs.Answer.{accepted};
+ghost use Rattle.error.specs.Answer.{accepted, told_answer};
 ghost use Rattle.error.specs.Verdict.{told_verdict};
-ghost use Rattle.book.specs.Answers.{told_pass};
 ghost use Rattle.book.specs.Entries.{elected_words};
 
-use book::{ElectedWords, PassAnswer, PassCounts, PrintSegment, Settings};
-use error::{Refusal, Verdict};
+use book::{ElectedWords, PassCounts, PrintSegment, Settings};
+use error::{Ask, Refusal};
 use form::well_formed;
 use passing::pass;
 use script::script_formed;
 
 // The questions of a pass: 1, 14, 15.
-pub fn ask_pass(s: &[u64], script: &[u64], elected: usize) -> Verdict
+pub fn ask_pass(s: &[u64], script: &[u64], elected: usize) -> Result<(), Refusal>
     ensures { told_verdict result ≡ first_no (pass_questions script.now s.now elected) }
 {
     if !well_formed(s) {
-        return Verdict::Refused(Refusal::StoreNotWellFormed);
+        return Err(Refusal::StoreNotWellFormed);
     }
     let count = s[1] as usize;
-    Verdict::Accepted
+    Ok(())
         .ask(elected >= count, Refusal::ListTooShort)
         .ask(script_formed(script), Refusal::InvalidScript)
 }
@@ -38,7 +36,7 @@ pub fn pass_over(
     prints: PrintSegment,
     elected: &mut [ElectedWords],
 ) -> PassCounts
-    requires { first_no (pass_questions script.now s.old (length elected.old)) ≡ none }
+    requires { first_no (pass_questions script.now s.old (length elected.old)) ≡ None }
     ensures { let o = passed settings script.now prints s.old in
         (accepted result ≡ o.answer)
         × (s.new ≡ o.words)
@@ -62,15 +60,12 @@ pub fn evaluate_pending_stops(
     script: &[u64],
     prints: PrintSegment,
     elected: &mut [ElectedWords],
-) -> PassAnswer
+) -> Result<PassCounts, Refusal>
     ensures { let o = pass_call settings script.now prints s.old (length elected.old) in
-        (told_pass result ≡ o.answer)
+        (told_answer result ≡ o.answer)
         × (s.new ≡ o.words)
         × (elected.new ≡ written (map elected_words o.elected) elected.old) }
 {
-    let verdict = ask_pass(&s[..], script, elected.len());
-    match verdict {
-        Verdict::Refused(e) => PassAnswer::Err(e),
-        Verdict::Accepted => PassAnswer::Ok(pass_over(s, settings, script, prints, elected)),
-    }
+    ask_pass(&s[..], script, elected.len())?;
+    Ok(pass_over(s, settings, script, prints, elected))
 }

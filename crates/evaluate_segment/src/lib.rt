@@ -6,24 +6,24 @@ ghost use Rattle.std.specs.Prelude.{map, ◌≡◌, length};
 ghost use Rattle.book.specs.Calls.{written, segment_questions, segment_call};
 ghost use Rattle.error.specs.Questions.{first_no};
 ghost use Rattle.error.specs.Verdict.{told_verdict};
-ghost use Rattle.book.specs.Answers.{told_counts};
+ghost use Rattle.error.specs.Answer.{told_answer};
 ghost use Rattle.book.specs.Entries.{elected_words, moved_words};
 
-use book::{Counts, ElectedWords, EvaluationAnswer, MovedWords, PrintSegment, Settings};
+use book::{Counts, ElectedWords, MovedWords, PrintSegment, Settings};
 use children::complete;
-use error::{Refusal, Verdict};
+use error::{Ask, Refusal};
 use form::well_formed;
 use segments::segment_listed;
 
 // The questions of a segment: 1, 14.
-fn ask_segment(s: &[u64], elected: usize, moved: usize) -> Verdict
+fn ask_segment(s: &[u64], elected: usize, moved: usize) -> Result<(), Refusal>
     ensures { told_verdict result ≡ first_no (segment_questions s.now elected moved) }
 {
     if !well_formed(s) {
-        return Verdict::Refused(Refusal::StoreNotWellFormed);
+        return Err(Refusal::StoreNotWellFormed);
     }
     let count = s[1] as usize;
-    Verdict::Accepted
+    Ok(())
         .ask(elected >= count, Refusal::ListTooShort)
         .ask(moved >= 2 * count, Refusal::ListTooShort)
 }
@@ -37,24 +37,19 @@ pub fn segment(
     prints: PrintSegment,
     elected: &mut [ElectedWords],
     moved: &mut [MovedWords],
-) -> EvaluationAnswer
+) -> Result<Counts, Refusal>
     ensures { let o = segment_call settings prints s.old (length elected.old) (length moved.old) in
-        (told_counts result ≡ o.answer)
+        (told_answer result ≡ o.answer)
         × (s.new ≡ o.words)
         × (elected.new ≡ written (map elected_words o.elected) elected.old)
         × (moved.new ≡ written (map moved_words o.moved) moved.old) }
 {
-    let verdict = ask_segment(&s[..], elected.len(), moved.len());
-    match verdict {
-        Verdict::Refused(e) => EvaluationAnswer::Err(e),
-        Verdict::Accepted => {
-            let n = s[0];
-            let o = segment_listed(s, n, settings.kill, prints, elected, moved);
-            complete(&s[..], n, settings, elected, 0, o.at);
-            EvaluationAnswer::Ok(Counts {
-                moves: o.moves,
-                elected: o.at as u64,
-            })
-        }
-    }
+    ask_segment(&s[..], elected.len(), moved.len())?;
+    let n = s[0];
+    let o = segment_listed(s, n, settings.kill, prints, elected, moved);
+    complete(&s[..], n, settings, elected, 0, o.at);
+    Ok(Counts {
+        moves: o.moves,
+        elected: o.at as u64,
+    })
 }

@@ -7,12 +7,12 @@ ghost use Rattle.book.specs.Calls.{written};
 ghost use Rattle.book.specs.StepCall.{step_questions, step_call};
 ghost use Rattle.error.specs.Questions.{first_no};
 ghost use Rattle.error.specs.Verdict.{told_verdict};
-ghost use Rattle.book.specs.Answers.{told_counts};
+ghost use Rattle.error.specs.Answer.{told_answer};
 ghost use Rattle.book.specs.Entries.{elected_words, moved_words};
 
-use book::{Counts, ElectedWords, EvaluationAnswer, LastPrice, MovedWords, Settings};
+use book::{Counts, ElectedWords, MovedWords, Settings};
 use children::complete;
-use error::{Refusal, Verdict};
+use error::{Ask, Refusal};
 use form::well_formed;
 use points::point;
 use pricelevel::Price;
@@ -20,14 +20,14 @@ use segments::list_moves;
 use side_order::sells_first;
 
 // The questions of a step: 1, 14.
-fn ask_step(s: &[u64], elected: usize, moved: usize) -> Verdict
+fn ask_step(s: &[u64], elected: usize, moved: usize) -> Result<(), Refusal>
     ensures { told_verdict result ≡ first_no (step_questions s.now elected moved) }
 {
     if !well_formed(s) {
-        return Verdict::Refused(Refusal::StoreNotWellFormed);
+        return Err(Refusal::StoreNotWellFormed);
     }
     let count = s[1] as usize;
-    Verdict::Accepted
+    Ok(())
         .ask(elected >= count, Refusal::ListTooShort)
         .ask(moved >= count, Refusal::ListTooShort)
 }
@@ -39,30 +39,25 @@ pub fn step(
     s: &mut [u64],
     settings: Settings,
     falls: bool,
-    from: LastPrice,
+    from: Option<Price>,
     price: Price,
     elected: &mut [ElectedWords],
     moved: &mut [MovedWords],
-) -> EvaluationAnswer
+) -> Result<Counts, Refusal>
     ensures { let o = step_call settings falls from price s.old (length elected.old) (length moved.old) in
-        (told_counts result ≡ o.answer)
+        (told_answer result ≡ o.answer)
         × (s.new ≡ o.words)
         × (elected.new ≡ written (map elected_words o.elected) elected.old)
         × (moved.new ≡ written (map moved_words o.moved) moved.old) }
 {
-    let verdict = ask_step(&s[..], elected.len(), moved.len());
-    match verdict {
-        Verdict::Refused(e) => EvaluationAnswer::Err(e),
-        Verdict::Accepted => {
-            let n = s[0];
-            let sells = sells_first(falls, from, price);
-            list_moves(&s[..], n, price, moved, 0);
-            let o = point(s, n, settings.kill, sells, price, elected, 0);
-            complete(&s[..], n, settings, elected, 0, o.at);
-            EvaluationAnswer::Ok(Counts {
-                moves: o.moves,
-                elected: o.at as u64,
-            })
-        }
-    }
+    ask_step(&s[..], elected.len(), moved.len())?;
+    let n = s[0];
+    let sells = sells_first(falls, from, price);
+    list_moves(&s[..], n, price, moved, 0);
+    let o = point(s, n, settings.kill, sells, price, elected, 0);
+    complete(&s[..], n, settings, elected, 0, o.at);
+    Ok(Counts {
+        moves: o.moves,
+        elected: o.at as u64,
+    })
 }

@@ -6,25 +6,26 @@ ghost use Rattle.std.specs.Prelude.{map, ◌≡◌, length};
 ghost use Rattle.book.specs.Calls.{written, walk_questions, walk_call};
 ghost use Rattle.error.specs.Questions.{first_no};
 ghost use Rattle.error.specs.Verdict.{told_verdict};
-ghost use Rattle.book.specs.Answers.{told_counts};
+ghost use Rattle.error.specs.Answer.{told_answer};
 ghost use Rattle.book.specs.Entries.{elected_words};
 ghost use Rattle.pricelevel.specs.Price.{to_price};
 
-use book::{Counts, ElectedWords, EvaluationAnswer, LastPrice, MOST_PRICES, Settings};
+use book::{Counts, ElectedWords, MOST_PRICES, Settings};
 use children::complete;
-use error::{Refusal, Verdict};
+use error::{Ask, Refusal};
 use form::well_formed;
 use price_walk::walk_points;
+use pricelevel::Price;
 
 // The questions of a walk: 1, 14, 16.
-fn ask_walk(s: &[u64], prices: &[u64], elected: usize) -> Verdict
+fn ask_walk(s: &[u64], prices: &[u64], elected: usize) -> Result<(), Refusal>
     ensures { told_verdict result ≡ first_no (walk_questions (map to_price prices.now) s.now elected) }
 {
     if !well_formed(s) {
-        return Verdict::Refused(Refusal::StoreNotWellFormed);
+        return Err(Refusal::StoreNotWellFormed);
     }
     let count = s[1] as usize;
-    Verdict::Accepted
+    Ok(())
         .ask(elected >= count, Refusal::ListTooShort)
         .ask(prices.len() >= 1, Refusal::PriceCountOutOfRange)
         .ask(prices.len() <= MOST_PRICES, Refusal::PriceCountOutOfRange)
@@ -36,26 +37,21 @@ fn ask_walk(s: &[u64], prices: &[u64], elected: usize) -> Verdict
 pub fn walk(
     s: &mut [u64],
     settings: Settings,
-    prev: LastPrice,
+    prev: Option<Price>,
     prices: &[u64],
     elected: &mut [ElectedWords],
-) -> EvaluationAnswer
+) -> Result<Counts, Refusal>
     ensures { let o = walk_call settings prev (map to_price prices.now) s.old (length elected.old) in
-        (told_counts result ≡ o.answer)
+        (told_answer result ≡ o.answer)
         × (s.new ≡ o.words)
         × (elected.new ≡ written (map elected_words o.elected) elected.old) }
 {
-    let verdict = ask_walk(&s[..], prices, elected.len());
-    match verdict {
-        Verdict::Refused(e) => EvaluationAnswer::Err(e),
-        Verdict::Accepted => {
-            let n = s[0];
-            let o = walk_points(s, n, settings.kill, prev, prices, elected);
-            complete(&s[..], n, settings, elected, 0, o.at);
-            EvaluationAnswer::Ok(Counts {
-                moves: o.moves,
-                elected: o.at as u64,
-            })
-        }
-    }
+    ask_walk(&s[..], prices, elected.len())?;
+    let n = s[0];
+    let o = walk_points(s, n, settings.kill, prev, prices, elected);
+    complete(&s[..], n, settings, elected, 0, o.at);
+    Ok(Counts {
+        moves: o.moves,
+        elected: o.at as u64,
+    })
 }

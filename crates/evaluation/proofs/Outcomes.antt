@@ -4,7 +4,6 @@ use native.Mathlib.Omega.{arith}
 use mathlib.Core.Bool.{Bool}
 use mathlib.Core.Path.{◌≡◌, refl, ap, ◌∙◌}
 use mathlib.Core.List.{List, [], ◌∷◌, map}
-use mathlib.Core.Option.{none, some}
 use lib.ListN.{length, get_or, length-map}
 use lib.Seq.{sets, length-sets}
 use Rattle.error.specs.Answer.{refused, accepted}
@@ -18,7 +17,6 @@ use Rattle.book.specs.Evaluation.{Evaluated, sells_first, segment, walk}
 use Rattle.book.specs.StepCall.{stepped, step_questions, step_call}
 use Rattle.error.specs.Questions.{first_no, decide}
 use Rattle.book.specs.Words.{book_of}
-use Rattle.book.specs.declared.LastPrice.{LastPrice}
 use Rattle.book.specs.declared.PrintSegment.{PrintSegment}
 use Rattle.book.specs.declared.Settings.{Settings}
 use Rattle.listing.proofs.Sets.{sets-written, sets_over}
@@ -27,6 +25,7 @@ use Rattle.listing.specs.ChainEntries.{fill_words}
 use Rattle.pending_stops.proofs.Found.{beyond, stored_words}
 use Rattle.pending_stops.specs.Stored.{Stored}
 use Rattle.evaluation.proofs.Questions.{segment_room, step_room, walk_room}
+use Rattle.std.specs.Prelude.{None, Option, Some}
 
 map_both : {A B C : Type 0} (f : B → C) (g : A → B) (l : List A) → map (λ x. f (g x)) l ≡ map f (map g l)
 map_both f g [] = refl
@@ -74,12 +73,12 @@ module _ (s : Settings) (prints : PrintSegment) (w : List ℕ) (elected moved : 
   abbrev after : Evaluated
   after = segment s.kill prints (book_of w)
 
-  pub segment_refused : (k : ℕ) → some k ≡ first_no (segment_questions w (length elected) (length moved))
+  pub segment_refused : (k : ℕ) → Some k ≡ first_no (segment_questions w (length elected) (length moved))
       → (refused k ≡ outcome.answer) × (w ≡ outcome.words) × (elected ≡ elected_after) × (moved ≡ moved_after)
   unfolding segment_call decide written
   segment_refused k h = rw (← h) (refl, refl, refl, refl)
 
-  module _ (h : none ≡ first_no (segment_questions w (length elected) (length moved))) (l1 : List (List ℕ))
+  module _ (h : None ≡ first_no (segment_questions w (length elected) (length moved))) (l1 : List (List ℕ))
       (filled : l1 ≡ sets elected 0 (map fill_words after.fills)) where
     pub segment-within : (k : ℕ) → k ≡ length after.fills → k ≤ length l1
     segment-within = fills-within s w elected _ after (segment_points s.kill prints (book_of w))
@@ -103,7 +102,7 @@ module _ (s : Settings) (prints : PrintSegment) (w : List ℕ) (elected moved : 
 ------------------------------------------------------------------------
 -- Step
 
-module _ (s : Settings) (falls : Bool) (from : LastPrice) (price : Price) (w : List ℕ) (elected moved : List (List ℕ)) where
+module _ (s : Settings) (falls : Bool) (from : Option Price) (price : Price) (w : List ℕ) (elected moved : List (List ℕ)) where
   abbrev outcome-step : SegmentOutcome
   outcome-step = step_call s falls from price w (length elected) (length moved)
 
@@ -119,12 +118,12 @@ module _ (s : Settings) (falls : Bool) (from : LastPrice) (price : Price) (w : L
   abbrev point_of-step : PointsAt s.kill (price ∷ []) (book_of w) after-step
   point_of-step = point_points s.kill (sells_first falls from price) price (book_of w)
 
-  pub step_refused : (k : ℕ) → some k ≡ first_no (step_questions w (length elected) (length moved))
+  pub step_refused : (k : ℕ) → Some k ≡ first_no (step_questions w (length elected) (length moved))
       → (refused k ≡ outcome-step.answer) × (w ≡ outcome-step.words) × (elected ≡ step_elected) × (moved ≡ step_moved)
   unfolding step_call decide written
   step_refused k h = rw (← h) (refl, refl, refl, refl)
 
-  module _ (h : none ≡ first_no (step_questions w (length elected) (length moved))) where
+  module _ (h : None ≡ first_no (step_questions w (length elected) (length moved))) where
     -- the moved list has room for the moves
     pub step-moves : length after-step.moved ≤ length moved
     step-moves =
@@ -147,7 +146,7 @@ module _ (s : Settings) (falls : Bool) (from : LastPrice) (price : Price) (w : L
 ------------------------------------------------------------------------
 -- Walk
 
-module _ (s : Settings) (prev : LastPrice) (prices : List Price) (w : List ℕ) (elected : List (List ℕ)) where
+module _ (s : Settings) (prev : Option Price) (prices : List Price) (w : List ℕ) (elected : List (List ℕ)) where
   abbrev outcome-walk : WalkOutcome
   outcome-walk = walk_call s prev prices w (length elected)
 
@@ -157,12 +156,12 @@ module _ (s : Settings) (prev : LastPrice) (prices : List Price) (w : List ℕ) 
   abbrev walked : Evaluated
   walked = walk s.kill prev prices (book_of w)
 
-  pub walk_refused : (k : ℕ) → some k ≡ first_no (walk_questions prices w (length elected))
+  pub walk_refused : (k : ℕ) → Some k ≡ first_no (walk_questions prices w (length elected))
       → (refused k ≡ outcome-walk.answer) × (w ≡ outcome-walk.words) × (elected ≡ walk_after)
   unfolding walk_call decide written
   walk_refused k h = rw (← h) (refl, refl, refl)
 
-  module _ (h : none ≡ first_no (walk_questions prices w (length elected))) (l1 : List (List ℕ))
+  module _ (h : None ≡ first_no (walk_questions prices w (length elected))) (l1 : List (List ℕ))
       (filled : l1 ≡ sets elected 0 (map fill_words walked.fills)) where
     pub walk-within : (k : ℕ) → k ≡ length walked.fills → k ≤ length l1
     walk-within = fills-within s w elected _ walked (walk_points s.kill prev prices (book_of w))

@@ -4,7 +4,6 @@ use native.Mathlib.Omega.{arith}
 use mathlib.Core.Path.{◌≡◌, refl, sym, ◌∙◌}
 use mathlib.Core.Bool.{Bool, true, false, not, cond, ◌||◌}
 use mathlib.Core.List.{List, map}
-use mathlib.Core.Option.{Option, none, some}
 use borrow.Author.Tests.{leb-true, ne_eqb}
 use borrow.Table.Steps.{cases}
 use lib.Dec.{eqb}
@@ -20,7 +19,6 @@ use Rattle.book.specs.Path.{segment_of, closed, take}
 use Rattle.error.specs.Questions.{first_no, decide}
 use Rattle.book.specs.Script.{script_formed}
 use Rattle.book.specs.Words.{book_of, well_formed}
-use Rattle.book.specs.declared.LastPrice.{LastPrice}
 use Rattle.book.specs.declared.PrintPath.{PrintPath}
 use Rattle.book.specs.declared.PrintSegment.{PrintSegment}
 use Rattle.book.specs.declared.Settings.{Settings}
@@ -29,11 +27,13 @@ use Rattle.book.specs.Entries.{elected_words}
 use Rattle.pending_stops.proofs.Found.{beyond, stored_words}
 use Rattle.pending_stops.specs.Stored.{Stored}
 use Rattle.evaluation.proofs.Questions.{count_word}
+use Rattle.std.specs.Prelude.{None, Option, Some}
+use Rattle.pricelevel.specs.declared.Price.{Price}
 
 ------------------------------------------------------------------------
 -- What the questions leave
 
-module _ (script w : List ℕ) (elected : ℕ) (h : first_no (pass_questions script w elected) ≡ none) where
+module _ (script w : List ℕ) (elected : ℕ) (h : first_no (pass_questions script w elected) ≡ None) where
   pub pass-formed : well_formed w ≡ true
   unfolding pass_questions
   pass-formed = (first_no_none (pass_questions script w elected) h).0
@@ -58,7 +58,7 @@ module _ (s : Settings) (script : List ℕ) (prints : PrintSegment) (w : List �
   PassLeaves o c u l =
       (accepted c ≡ o.answer) × (u ≡ o.words) × (l ≡ written (map elected_words o.elected) elected)
 
-  pub passed_done : first_no (pass_questions script w (length elected)) ≡ none
+  pub passed_done : first_no (pass_questions script w (length elected)) ≡ None
       → (c : PassCounts) (u : List ℕ) (l : List (List ℕ))
       → c.moves ≡ after.moves → c.elected ≡ length after.entries → c.used ≡ after.used
       → l ≡ sets elected 0 (map elected_words after.entries) → Stored (get_or w 0 0) u after.book (beyond w)
@@ -75,13 +75,13 @@ module _ (s : Settings) (script : List ℕ) (prints : PrintSegment) (w : List �
   abbrev whole : PassOutcome
   whole = pass_call s script prints w (length elected)
 
-  pub pass_refused : (k : ℕ) → some k ≡ first_no (pass_questions script w (length elected))
+  pub pass_refused : (k : ℕ) → Some k ≡ first_no (pass_questions script w (length elected))
       → (refused k ≡ whole.answer) × (w ≡ whole.words)
       × (elected ≡ written (map elected_words whole.elected) elected)
   unfolding pass_call decide written
   pass_refused k h = rw (← h) (refl, refl, refl)
 
-  pub pass_accepted_as : none ≡ first_no (pass_questions script w (length elected))
+  pub pass_accepted_as : None ≡ first_no (pass_questions script w (length elected))
       → (c : PassCounts) (u : List ℕ) (l : List (List ℕ))
       → PassLeaves (passed s script prints w) c u l → PassLeaves whole c u l
   unfolding pass_call decide
@@ -90,19 +90,19 @@ module _ (s : Settings) (script : List ℕ) (prints : PrintSegment) (w : List �
 ------------------------------------------------------------------------
 -- The run
 
-choose : (a b : Bool) (p : Option PrintSegment) → a ≡ false → cond b p none ≡ cond (a || not b) none p
+choose : (a b : Bool) (p : Option PrintSegment) → a ≡ false → cond b p None ≡ cond (a || not b) None p
 choose a true p e = rw e
 choose a false p e = rw e
 
 -- what is taken of a path where stops are pending
-pub taken-segment : (pending : ℕ) (path : PrintPath) (trade : LastPrice) (x : Option PrintSegment) → (pending ≡ 0 → ⊥)
+pub taken-segment : (pending : ℕ) (path : PrintPath) (trade : Option Price) (x : Option PrintSegment) → (pending ≡ 0 → ⊥)
     → x ≡ (take path trade).segment
-    → x ≡ cond (eqb pending 0 || not path.«open») none (some (segment_of path trade))
+    → x ≡ cond (eqb pending 0 || not path.«open») None (Some (segment_of path trade))
 unfolding take
 taken-segment pending path trade x h e =
-    e ∙ choose (eqb pending 0) path.«open» (some (segment_of path trade)) (ne_eqb pending 0 h)
+    e ∙ choose (eqb pending 0) path.«open» (Some (segment_of path trade)) (ne_eqb pending 0 h)
 
-module _ (s : Settings) (script : List ℕ) (trade : LastPrice) (w : List ℕ) (elected : List (List ℕ))
+module _ (s : Settings) (script : List ℕ) (trade : Option Price) (w : List ℕ) (elected : List (List ℕ))
     (path : PrintPath) where
   abbrev run : RunOutcome
   run = run_call s script trade w (length elected) path
@@ -110,28 +110,28 @@ module _ (s : Settings) (script : List ℕ) (trade : LastPrice) (w : List ℕ) (
   abbrev run_after : List (List ℕ)
   run_after = written (map elected_words run.elected) elected
 
-  pub run_refused : (k : ℕ) → some k ≡ first_no (pass_questions script w (length elected))
+  pub run_refused : (k : ℕ) → Some k ≡ first_no (pass_questions script w (length elected))
       → (refused k ≡ run.answer) × (w ≡ run.words) × (elected ≡ run_after) × (path ≡ run.path)
   unfolding run_call decide written
   run_refused k h = rw (← h) (refl, refl, refl, refl)
 
-  module _ (h : none ≡ first_no (pass_questions script w (length elected))) (next : Option PrintSegment)
-      (is : next ≡ cond (eqb (get_or w 1 0) 0 || not path.«open») none (some (segment_of path trade))) where
+  module _ (h : None ≡ first_no (pass_questions script w (length elected))) (next : Option PrintSegment)
+      (is : next ≡ cond (eqb (get_or w 1 0) 0 || not path.«open») None (Some (segment_of path trade))) where
     abbrev idle : Bool
     idle = eqb (pending_in w) 0 || not path.«open»
 
-    next_is : next ≡ cond idle none (some (segment_of path trade))
+    next_is : next ≡ cond idle None (Some (segment_of path trade))
     next_is = rw (← count_word w (pass-formed script w (length elected) (sym h))) is
 
-    pub run_idle : next ≡ none → (accepted (record { moves = 0; elected = 0; used = 0 }) ≡ run.answer)
+    pub run_idle : next ≡ None → (accepted (record { moves = 0; elected = 0; used = 0 }) ≡ run.answer)
         × (w ≡ run.words) × (elected ≡ run_after) × (path ≡ run.path)
     unfolding run_call run_over decide written
     run_idle e =
         cases idle (λ q. rw (← h, q) (refl, refl, refl, refl))
-        (λ q. let f : some (segment_of path trade) ≡ none = sym (rw q at next_is)
+        (λ q. let f : Some (segment_of path trade) ≡ None = sym (rw q at next_is)
         ∙ e in let z : ◌≡◌ {A = ℕ} 0 1 = cc in absurd (omega arith))
 
-    pub run_taken : (prints : PrintSegment) → next ≡ some prints
+    pub run_taken : (prints : PrintSegment) → next ≡ Some prints
         → (c : PassCounts) (u : List ℕ) (l : List (List ℕ)) (closing : PrintPath)
         → PassLeaves s script prints w elected (passed s script prints w) c u l
         → closing ≡ closed path
@@ -139,9 +139,9 @@ module _ (s : Settings) (script : List ℕ) (trade : LastPrice) (w : List ℕ) (
     unfolding run_call run_over decide written
     run_taken prints e c u l closing d p =
         cases idle
-        (λ q. let f : none ≡ some prints = sym (rw q at next_is)
+        (λ q. let f : None ≡ Some prints = sym (rw q at next_is)
         ∙ e in let z : ◌≡◌ {A = ℕ} 0 1 = cc in absurd (omega arith))
         (λ q.
-        let f : some (segment_of path trade) ≡ some prints = sym (rw q at next_is) ∙ e in
+        let f : Some (segment_of path trade) ≡ Some prints = sym (rw q at next_is) ∙ e in
         let g : prints ≡ segment_of path trade = cc in
         rw (← h, q, ← g) (d.0, d.1, d.2, p))

@@ -4,7 +4,6 @@ use native.Mathlib.Omega.{arith}
 use mathlib.Core.Path.{◌≡◌, sym}
 use mathlib.Core.Bool.{true}
 use mathlib.Core.List.{List}
-use mathlib.Core.Option.{none}
 use borrow.Author.Tests.{leb-true}
 use lib.Dec.{leb}
 use lib.ListN.{length, get_or}
@@ -21,6 +20,7 @@ use Rattle.form_check.proofs.Counts.{pending_count_few}
 use Rattle.pending_stops.proofs.Found.{well_formed-stored}
 use Rattle.pending_stops.proofs.Found as finding
 use Rattle.store_words.proofs.ChainsOf.{well_formed_room}
+use Rattle.std.specs.Prelude.{None}
 
 module _ (w : List ℕ) (e : well_formed w ≡ true) where
   pub count_word : get_or w 1 0 ≡ pending_in w
@@ -34,7 +34,7 @@ module _ (w : List ℕ) (e : well_formed w ≡ true) where
 ------------------------------------------------------------------------
 -- What the questions leave
 
-module _ (w : List ℕ) (elected moved : ℕ) (h : none ≡ first_no (segment_questions w elected moved)) where
+module _ (w : List ℕ) (elected moved : ℕ) (h : None ≡ first_no (segment_questions w elected moved)) where
   pub segment-formed : well_formed w ≡ true
   unfolding segment_questions
   segment-formed = (first_no_none (segment_questions w elected moved) (sym h)).0
@@ -45,7 +45,7 @@ module _ (w : List ℕ) (elected moved : ℕ) (h : none ≡ first_no (segment_qu
       let q = and_parts (leb (pending_in w) elected) _ (first_no_none (segment_questions w elected moved) (sym h)).1.0 in
       (leb-true _ _ q.0, leb-true _ _ q.1)
 
-module _ (w : List ℕ) (elected moved : ℕ) (h : none ≡ first_no (step_questions w elected moved)) where
+module _ (w : List ℕ) (elected moved : ℕ) (h : None ≡ first_no (step_questions w elected moved)) where
   pub step-formed : well_formed w ≡ true
   unfolding step_questions
   step-formed = (first_no_none (step_questions w elected moved) (sym h)).0
@@ -56,7 +56,7 @@ module _ (w : List ℕ) (elected moved : ℕ) (h : none ≡ first_no (step_quest
       let q = and_parts (leb (pending_in w) elected) _ (first_no_none (step_questions w elected moved) (sym h)).1.0 in
       (leb-true _ _ q.0, leb-true _ _ q.1)
 
-module _ (prices : List Price) (w : List ℕ) (elected : ℕ) (h : none ≡ first_no (walk_questions prices w elected)) where
+module _ (prices : List Price) (w : List ℕ) (elected : ℕ) (h : None ≡ first_no (walk_questions prices w elected)) where
   pub walk-formed : well_formed w ≡ true
   unfolding walk_questions
   walk-formed = (first_no_none (walk_questions prices w elected) (sym h)).0

@@ -4,7 +4,6 @@ use native.Mathlib.Omega.{arith}
 use mathlib.Core.Path.{◌≡◌, refl, sym, ◌∙◌}
 use mathlib.Core.Bool.{Bool, true, not, ◌||◌}
 use mathlib.Core.List.{List, [], ◌∷◌, map}
-use mathlib.Core.Option.{none}
 use borrow.Author.Tests.{le-leb, lt-leb, leb-true, leb-false}
 use borrow.Table.Steps.{cases}
 use lib.Dec.{leb, eqb}
@@ -20,8 +19,7 @@ use Rattle.book.specs.Lists.{All}
 use Rattle.book.proofs.Passes.{pass_from_induction, pass_count_lem}
 use Rattle.book.proofs.Questions.{decide_outcomes}
 use Rattle.book.specs.Book.{Book, pending_count}
-use Rattle.book.specs.Calls.{elected_entry, elected_entries, written, counts_of, pending_in, segment_questions, SegmentOutcome, segment_call}
-use Rattle.book.specs.Calls.{WalkOutcome, walk_questions, walk_call, pass, PassOutcome, pass_questions, passed, pass_call, RunOutcome, run_over, run_call}
+use Rattle.book.specs.Calls.{elected_entry, elected_entries, written, counts_of, pending_in, segment_questions, SegmentOutcome, segment_call, WalkOutcome, walk_questions, walk_call, pass, PassOutcome, pass_questions, passed, pass_call, RunOutcome, run_over, run_call}
 use Rattle.book.specs.Evaluation.{Fill, Evaluated, sells_first, segment}
 use Rattle.book.specs.StepCall.{step_questions, step_call}
 use Rattle.book.specs.Path.{segment_of}
@@ -29,7 +27,6 @@ use Rattle.error.specs.Questions.{first_no}
 use Rattle.book.specs.Words.{book_of, well_formed}
 use Rattle.book.specs.Sizes.{most_records}
 use Rattle.book.specs.declared.Elected.{Elected}
-use Rattle.book.specs.declared.LastPrice.{LastPrice}
 use Rattle.book.specs.declared.PrintPath.{PrintPath}
 use Rattle.book.specs.declared.PrintSegment.{PrintSegment}
 use Rattle.book.specs.declared.Settings.{Settings}
@@ -38,6 +35,7 @@ use Rattle.evaluation.proofs.Passes.{pass_elected}
 use Rattle.pending_stops.proofs.Found.{well_formed-stored}
 use Rattle.points.proofs.Steps.{stored_few}
 use Rattle.evaluation.specs.Counts.{elected_count, moved_count, pass_count}
+use Rattle.std.specs.Prelude.{None, Option}
 
 ------------------------------------------------------------------------
 -- The children of what is listed
@@ -122,7 +120,7 @@ segment_most s prints w formed =
 ------------------------------------------------------------------------
 -- Walk
 
-module _ (s : Settings) (prev : LastPrice) (prices : List Price) (w : List ℕ) where
+module _ (s : Settings) (prev : Option Price) (prices : List Price) (w : List ℕ) where
   pub walk_lists : (room : ℕ)
       → ListsElected (elected_count (walk_call s prev prices w room).answer)
       (walk_call s prev prices w room).elected room
@@ -153,7 +151,7 @@ module _ (script w : List ℕ) (room : ℕ) where
   pass_questions_lem = cases (well_formed w) (λ h. rw (cut_leb (pending_in w) room most_records (pending_few w h))) (λ h. rw h)
 
 module _ (s : Settings) (script : List ℕ) (prints : PrintSegment) (w : List ℕ) where
-  passed_lists : (room : ℕ) → first_no (pass_questions script w room) ≡ none
+  passed_lists : (room : ℕ) → first_no (pass_questions script w room) ≡ None
       → ListsElected (pass_count (passed s script prints w).answer) (passed s script prints w).elected room
   unfolding passed pass_count
   passed_lists room h = (
@@ -177,7 +175,7 @@ module _ (s : Settings) (script : List ℕ) (prints : PrintSegment) (w : List �
 ------------------------------------------------------------------------
 -- Run
 
-module _ (s : Settings) (script : List ℕ) (trade : LastPrice) (w : List ℕ) (path : PrintPath) where
+module _ (s : Settings) (script : List ℕ) (trade : Option Price) (w : List ℕ) (path : PrintPath) where
   pub run_lists : (room : ℕ)
       → ListsElected (pass_count (run_call s script trade w room path).answer)
       (run_call s script trade w room path).elected room
@@ -232,7 +230,7 @@ module _ (s : Settings) (prints : PrintSegment) (w : List ℕ) (elected moved : 
 ------------------------------------------------------------------------
 -- Step
 
-module _ (s : Settings) (falls : Bool) (from : LastPrice) (price : Price) (w : List ℕ) (elected moved : ℕ) where
+module _ (s : Settings) (falls : Bool) (from : Option Price) (price : Price) (w : List ℕ) (elected moved : ℕ) where
   abbrev step_to : SegmentOutcome
   step_to = step_call s falls from price w elected moved
 

@@ -67,14 +67,7 @@ fn child(namespace: Uuid, kind: IdKind, high: u64, low: u64) {
     print::word(high);
     print::word(low);
     print::text(b": ");
-    let id = stop_trigger::stop_trigger_order_id(
-        namespace,
-        Id {
-            kind: kind,
-            high: high,
-            low: low,
-        },
-    );
+    let id = stop_trigger::stop_trigger_order_id(namespace, Id { kind, high, low });
     let child_kind = id.kind;
     print::word(child_kind.number() as u64);
     print::text(b" ");

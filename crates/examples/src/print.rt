@@ -26,13 +26,7 @@ pub fn word(n: u64) {
 // Octets as hexadecimal digits, with a space before them.
 pub fn octets(b: &[u8]) {
     text(b" ");
-    let mut i = 0;
-    while i < b.len() {
-        io::print_hex(1, wide(b[i]), 2);
-        i += 1;
+    for octet in b {
+        io::print_hex(1, u64::from(*octet), 2);
     }
-}
-
-fn wide(b: u8) -> u64 {
-    b as u64
 }

@@ -2,7 +2,7 @@
 use crate::print;
 use error::Refusal;
 use pricelevel::{Price, Side};
-use stop_protection::{Limit, NewProtection, Protection, StopProtection, TickCheck};
+use stop_protection::{StopProtection, limit_under};
 
 fn refused(e: Refusal) {
     print::text(b" refused");
@@ -14,8 +14,8 @@ fn collar(size: u64) {
     print::number(size);
     print::text(b":");
     match StopProtection::try_new(size) {
-        NewProtection::Ok(p) => print::number(p.collar()),
-        NewProtection::Err(e) => refused(e),
+        Ok(p) => print::number(p.collar()),
+        Err(e) => refused(e),
     }
     print::text(b"\n");
 }
@@ -32,14 +32,11 @@ fn limit(side: Side, stop: u64, size: u64) {
     print::side(side);
     print::number(stop);
     print::number(size);
-    let protection = match StopProtection::try_new(size) {
-        NewProtection::Ok(p) => Protection::Collar(p),
-        NewProtection::Err(_) => Protection::None,
-    };
+    let protection = StopProtection::try_new(size).ok();
     print::text(b":");
-    match protection.limit(side, Price(stop)) {
-        Limit::None => print::text(b" none"),
-        Limit::At(at) => {
+    match limit_under(protection, side, Price(stop)) {
+        None => print::text(b" none"),
+        Some(at) => {
             let words = at.0;
             print::number(words.high);
             print::number(words.low);
@@ -71,11 +68,11 @@ fn tick(size: u64, tick_size: u64) {
     print::number(tick_size);
     print::text(b":");
     match StopProtection::try_new(size) {
-        NewProtection::Ok(p) => match p.check_tick_size(tick_size) {
-            TickCheck::Ok => print::text(b" ok"),
-            TickCheck::Err(e) => refused(e),
+        Ok(p) => match p.check_tick_size(tick_size) {
+            Ok(()) => print::text(b" ok"),
+            Err(e) => refused(e),
         },
-        NewProtection::Err(e) => refused(e),
+        Err(e) => refused(e),
     }
     print::text(b"\n");
 }

@@ -1,15 +1,14 @@
 // A stop's terms: trailed, elected_by, inconsistency, and the preview.
 use crate::print;
 use pricelevel::{Price, Side};
-use repricing::TrailingStopPrice;
 use stop_terms::{Inconsistency, StopTerms};
 
 fn terms(side: Side, stop: u64, watermark: u64, trail: u64) -> StopTerms {
     StopTerms {
-        side: side,
+        side,
         stop: Price(stop),
         watermark: Price(watermark),
-        trail: trail,
+        trail,
     }
 }
 
@@ -69,10 +68,10 @@ pub fn elections() {
 fn inconsistency(side: Side, stop: u64, watermark: u64, trail: u64) {
     ask(b"inconsistency ", side, stop, watermark, trail);
     match terms(side, stop, watermark, trail).inconsistency() {
-        Inconsistency::None => print::text(b": none\n"),
-        Inconsistency::ZeroTrail => print::text(b": zero trail\n"),
-        Inconsistency::SellAboveWatermark => print::text(b": sell above watermark\n"),
-        Inconsistency::BuyBelowWatermark => print::text(b": buy below watermark\n"),
+        None => print::text(b": none\n"),
+        Some(Inconsistency::ZeroTrail) => print::text(b": zero trail\n"),
+        Some(Inconsistency::SellAboveWatermark) => print::text(b": sell above watermark\n"),
+        Some(Inconsistency::BuyBelowWatermark) => print::text(b": buy below watermark\n"),
     }
 }
 
@@ -97,8 +96,8 @@ fn preview(side: Side, stop: u64, watermark: u64, trail: u64, price: u64) {
         Price(price),
     );
     match answer {
-        TrailingStopPrice::None => print::text(b" none"),
-        TrailingStopPrice::Adjusted(a) => {
+        None => print::text(b" none"),
+        Some(a) => {
             print::number(a.stop.0);
             print::number(a.reference.0);
         }

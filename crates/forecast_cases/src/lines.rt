@@ -9,13 +9,7 @@ use crate::files;
 fn put_word(bytes: &mut [u8], p: usize, word: u64)
     requires { p + 8 ≤ length bytes.old }
 {
-    let mut left = word;
-    let mut k: usize = 0;
-    while k < 8 {
-        bytes[p + k] = (left % 256) as u8;
-        left = left / 256;
-        k += 1;
-    }
+    bytes[p..p + 8].copy_from_slice(&word.to_le_bytes());
 }
 
 // Writes a word behind the first n bytes, if it is at its end, and answers how many there are then.
@@ -23,10 +17,7 @@ fn add_word(bytes: &mut [u8], n: usize, ends: bool, word: u64) -> usize
     requires { n ≤ length bytes.old }
     ensures { result ≤ length bytes.old }
 {
-    if !ends {
-        return n;
-    }
-    if bytes.len() - n < 8 {
+    if !ends || bytes.len() - n < 8 {
         return n;
     }
     put_word(bytes, n, word);
@@ -38,43 +29,22 @@ fn add_byte(bytes: &mut [u8], n: usize, c: u8) -> usize
     requires { n ≤ length bytes.old }
     ensures { result ≤ length bytes.old }
 {
-    if c != b'+' {
-        return n;
-    }
-    if n == bytes.len() {
+    if c != b'+' || n == bytes.len() {
         return n;
     }
     bytes[n] = 0;
     n + 1
 }
 
-fn is_digit(c: u8) -> bool {
-    if c < b'0' {
-        return false;
-    }
-    c <= b'9'
-}
-
 // A number with a digit behind it; 0 with anything else.
 fn append(value: u64, c: u8) -> u64 {
-    if c < b'0' {
-        return 0;
-    }
-    if c > b'9' {
+    if !c.is_ascii_digit() {
         return 0;
     }
     if value > 1844674407370955161 {
         return value;
     }
-    std::num::wrapping_add_u64(value * 10, (c - b'0') as u64)
-}
-
-// Whether a number ends before c.
-fn ends(open: bool, c: u8) -> bool {
-    if is_digit(c) {
-        return false;
-    }
-    open
+    (value * 10).wrapping_add(u64::from(c - b'0'))
 }
 
 // Writes the bytes that a text stands for, and answers how many they are.
@@ -84,14 +54,11 @@ fn encode(bytes: &mut [u8], text: &[u8]) -> usize
     let mut n: usize = 0;
     let mut open = false;
     let mut value: u64 = 0;
-    let mut i: usize = 0;
-    while i < text.len() {
-        let c = text[i];
-        n = add_word(bytes, n, ends(open, c), value);
-        n = add_byte(bytes, n, c);
-        value = append(value, c);
-        open = is_digit(c);
-        i += 1;
+    for c in text {
+        n = add_word(bytes, n, open && !c.is_ascii_digit(), value);
+        n = add_byte(bytes, n, *c);
+        value = append(value, *c);
+        open = c.is_ascii_digit();
     }
     add_word(bytes, n, open, value)
 }
@@ -108,13 +75,7 @@ fn input(rt: &HostRuntime, text: &[u8]) -> std::io::Result<()> {
 
 // The number that a text ends with.
 fn last_number(text: &[u8]) -> u64 {
-    let mut value: u64 = 0;
-    let mut i: usize = 0;
-    while i < text.len() {
-        value = append(value, text[i]);
-        i += 1;
-    }
-    value
+    text.iter().fold(0, |value, c| append(value, *c))
 }
 
 // A line by its first byte.
@@ -134,35 +95,16 @@ fn starting(rt: &HostRuntime, c: u8, text: &[u8]) -> std::io::Result<()> {
 }
 
 fn line(rt: &HostRuntime, text: &[u8]) -> std::io::Result<()> {
-    if text.len() == 0 {
-        input(rt, text)
-    } else {
-        starting(rt, text[0], text)
+    match text.first() {
+        Some(c) => starting(rt, *c, text),
+        None => input(rt, text),
     }
-}
-
-// Where the line from a place on ends.
-fn line_end(text: &[u8], from: usize) -> usize
-    requires { from ≤ length text.now }
-    ensures { (from ≤ result) × (result ≤ length text.now) }
-{
-    let mut i = from;
-    while i < text.len() {
-        if text[i] == b'\n' {
-            return i;
-        }
-        i += 1;
-    }
-    i
 }
 
 // Each line in turn.
 pub fn lines(rt: &HostRuntime, text: &[u8]) -> std::io::Result<()> {
-    let mut at: usize = 0;
-    while at < text.len() {
-        let end = line_end(text, at);
-        line(rt, &text[at..end])?;
-        at = end + 1;
+    for whole in text.split_inclusive(|c| *c == b'\n') {
+        line(rt, whole.strip_suffix(b"\n").unwrap_or(whole))?;
     }
     Ok(())
 }

@@ -1,12 +1,10 @@
 -- What the program `forecast` reads: a store as little-endian words, a price count, the prices. Document 01, The
 -- program `forecast`.
-use Rattle.std.specs.Prelude.{ℕ, zero, suc, ◌+◌, ◌*◌, ◌/◌, ◌%◌, ◌^◌, min, ◌≡◌, false, cond, ◌&&◌, List, [], ◌∷◌, map, leb, eqb, length, get_or, take, drop}
+use Rattle.std.specs.Prelude.{ℕ, zero, suc, ◌+◌, ◌*◌, ◌/◌, ◌%◌, ◌^◌, min, ◌≡◌, false, cond, ◌&&◌, List, [], ◌∷◌, map, leb, eqb, length, get_or, take, drop, None}
 use Rattle.book.specs.Calls.{WalkOutcome, walk_call}
-use Rattle.book.specs.declared.LastPrice.TheVariants as last
 use Rattle.book.specs.declared.Settings.{Settings}
 use Rattle.book.specs.Sizes.{most_records, store_length, most_prices}
 use Rattle.pricelevel.specs.Price.{to_price}
-use Rattle.stop_protection.specs.declared.Protection.TheVariants.{None}
 
 -- four bytes from place p on as a number, the lowest first
 unfoldable pub four_at : List ℕ → ℕ → ℕ
@@ -62,5 +60,5 @@ forecast_settings = record { kill = false; protection = None; namespace = record
 
 -- the walk that an input asks for, prev absent, with a list as long as a store has records
 unfoldable pub forecast_of : List ℕ → WalkOutcome
-forecast_of bytes = walk_call forecast_settings last.None (map to_price (prices_in (words_of bytes)))
+forecast_of bytes = walk_call forecast_settings None (map to_price (prices_in (words_of bytes)))
     (store_in (words_of bytes)) most_records

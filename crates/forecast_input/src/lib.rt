@@ -50,10 +50,8 @@ pub fn read_words(bytes: &[u8], i: usize, words: &mut [u64])
     requires { 8 * (i + length words.old) ≤ length bytes.now }
     ensures { words.new ≡ words_at bytes.now i (length words.old) }
 {
-    let mut k: usize = 0;
-    while k < words.len() {
-        words[k] = word_at(bytes, i + k);
-        k += 1;
+    for (k, word) in words.iter_mut().enumerate() {
+        *word = word_at(bytes, i + k);
     }
 }
 

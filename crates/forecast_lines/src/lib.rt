@@ -7,7 +7,7 @@ mod reading;
 ghost use Rattle.std.specs.Prelude.{◌≡◌, length};
 ghost use Rattle.forecast_input.specs.Input.{room_bytes};
 
-use book::{ELECTED_WORDS, EvaluationAnswer, MOST_RECORDS};
+use book::{ELECTED_WORDS, MOST_RECORDS};
 use forecast_input::{ROOM_BYTES, decisive};
 use forecasting::forecast;
 
@@ -16,8 +16,8 @@ fn print_forecast(bytes: &[u8]) {
     let mut elected = [[0u64; ELECTED_WORDS]; MOST_RECORDS];
     let answer = forecast(bytes, &mut elected);
     match answer {
-        EvaluationAnswer::Ok(counts) => print::entries(&elected, counts.elected),
-        EvaluationAnswer::Err(refusal) => print::refusal(refusal),
+        Ok(counts) => print::entries(&elected, counts.elected),
+        Err(refusal) => print::refusal(refusal),
     }
 }
 

@@ -37,13 +37,8 @@ pub fn entries(elected: &[ElectedWords], count: u64) {
     text(b"elected");
     field(count);
     text(b"\n");
-    let mut i: usize = 0;
-    while i < elected.len() {
-        if i as u64 >= count {
-            return;
-        }
-        entry(elected[i]);
-        i += 1;
+    for e in elected.iter().take(count as usize) {
+        entry(*e);
     }
 }
 

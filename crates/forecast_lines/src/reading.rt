@@ -10,7 +10,7 @@ fn skip(fd: i32) -> usize
 }
 
 // How many bytes are left to the end of input. Each turn reads one at least, and the count ends at 2^62, which no
-// input reaches.
+// input reaches: no index, so no range.
 pub fn left(fd: i32) -> usize
     ensures { result ≤ 2 ^ 62 + 65536 }
 {

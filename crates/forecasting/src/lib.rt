@@ -6,14 +6,14 @@
 ghost use Rattle.std.specs.Prelude.{◌≡◌, map, length};
 ghost use Rattle.book.specs.Calls.{written};
 ghost use Rattle.book.specs.Sizes.{most_records, store_length, most_prices};
-ghost use Rattle.book.specs.Answers.{told_counts};
+ghost use Rattle.error.specs.Answer.{told_answer};
 ghost use Rattle.book.specs.Entries.{elected_words};
 ghost use Rattle.forecast_input.specs.Input.{words_of, store_in, prices_in, forecast_settings, forecast_of};
 
-use book::{ElectedWords, EvaluationAnswer, LastPrice, MOST_PRICES, STORE_WORDS, Settings};
+use book::{Counts, ElectedWords, MOST_PRICES, STORE_WORDS, Settings};
+use error::Refusal;
 use evaluate_walk::walk;
 use forecast_input::{price_count, read_words, store_length, word_count};
-use stop_protection::Protection;
 use uuid_v5::Uuid;
 
 // The settings of a forecast: kill switch off, no collar, namespace zero.
@@ -22,7 +22,7 @@ fn settings() -> Settings
 {
     Settings {
         kill: false,
-        protection: Protection::None,
+        protection: None,
         namespace: Uuid { high: 0, low: 0 },
     }
 }
@@ -33,18 +33,18 @@ fn walk_input(
     store: &mut [u64],
     prices: &mut [u64],
     elected: &mut [ElectedWords],
-) -> EvaluationAnswer
+) -> Result<Counts, Refusal>
     requires store_len { length store.old ≡ length (store_in (words_of bytes.now)) }
     requires prices_len { length prices.old ≡ length (prices_in (words_of bytes.now)) }
     requires elected_len { length elected.old ≡ most_records }
-    ensures result_value { told_counts result ≡ (forecast_of bytes.now).answer }
+    ensures result_value { told_answer result ≡ (forecast_of bytes.now).answer }
     ensures elected_after { elected.new ≡ written (map elected_words (forecast_of bytes.now).elected) elected.old }
 {
     let count = word_count(bytes);
     let at = count - prices.len();
     read_words(bytes, 0, store);
     read_words(bytes, at, prices);
-    walk(store, settings(), LastPrice::None, &prices[..], elected)
+    walk(store, settings(), None, &prices[..], elected)
 }
 
 fn longest_store() -> [u64; STORE_WORDS]
@@ -62,9 +62,9 @@ fn most_prices() -> [u64; MOST_PRICES]
 // Walks an input's store along its prices, the price before them absent, and lists what is elected in a list as
 // long as a store can need. Refused: what the walk refuses, of no words where the bytes are no multiple of 8 (1),
 // of no prices where these are not as many as their count (16).
-pub fn forecast(bytes: &[u8], elected: &mut [ElectedWords]) -> EvaluationAnswer
+pub fn forecast(bytes: &[u8], elected: &mut [ElectedWords]) -> Result<Counts, Refusal>
     requires { length elected.old ≡ most_records }
-    ensures result_value { told_counts result ≡ (forecast_of bytes.now).answer }
+    ensures result_value { told_answer result ≡ (forecast_of bytes.now).answer }
     ensures elected_after { elected.new ≡ written (map elected_words (forecast_of bytes.now).elected) elected.old }
 {
     let mut store = longest_store();

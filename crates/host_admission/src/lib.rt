@@ -2,27 +2,13 @@
 #![tactic(auto)]
 
 ghost use Rattle.std.specs.Prelude.{◌≡◌};
-ghost use Rattle.book.specs.Answers.{told_admission};
 ghost use Rattle.host_words.specs.Answers.{Told, seq_words};
 ghost use Rattle.host_words.specs.ByWords.{admit_by_words};
 
-use book::AdmissionAnswer;
 use host_words::{HolderWords, UNKNOWN};
 use path_words::{last_price_of, path_known, path_of, path_words};
 use pricelevel::Quantity;
 use term_words::{holder_of, id_known, id_of, terms_known, terms_of};
-
-fn of_admission(r: AdmissionAnswer, answer: &mut [u64; 1]) -> u64
-    ensures { Told seq_words (told_admission r) answer.old result answer.new }
-{
-    match r {
-        AdmissionAnswer::Ok(seq) => {
-            *answer = [seq.0];
-            0
-        }
-        AdmissionAnswer::Err(e) => e.number(),
-    }
-}
 
 pub fn admit_trailing_stop(
     s: &mut [u64],
@@ -62,5 +48,5 @@ pub fn admit_trailing_stop(
     let after = admitted.path;
     *path = path_words(after);
     let given = admitted.answer;
-    of_admission(given, answer)
+    answer_words::answer(given, answer)
 }

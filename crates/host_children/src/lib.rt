@@ -9,7 +9,7 @@ ghost use Rattle.host_words.specs.ByWords.{limit_by_words, check_of, child_by_wo
 use evaluation_words::protection_of;
 use host_words::UNKNOWN;
 use pricelevel::Price;
-use stop_protection::{NewProtection, StopProtection, TickCheck};
+use stop_protection::{StopProtection, limit_under};
 use term_words::{id_known, id_of, id_words, side_known};
 use uuid_v5::Uuid;
 
@@ -20,8 +20,8 @@ pub fn limit_price(collar: u64, side: u64, stop_price: u64, answer: &mut [u64; 3
         return UNKNOWN;
     }
     let protection = protection_of(collar);
-    let limit = protection.limit(stored_stops::side_from(side), Price(stop_price));
-    *answer = limit.words();
+    let limit = limit_under(protection, stored_stops::side_from(side), Price(stop_price));
+    *answer = stop_protection::limit_words(limit);
     0
 }
 
@@ -29,8 +29,8 @@ pub fn check_collar(collar: u64) -> u64
     ensures { result ≡ number (try_new collar) }
 {
     match StopProtection::try_new(collar) {
-        NewProtection::Ok(_) => 0,
-        NewProtection::Err(e) => e.number(),
+        Ok(_) => 0,
+        Err(e) => e.number(),
     }
 }
 
@@ -39,11 +39,11 @@ pub fn check_tick_size(collar: u64, tick_size: u64) -> u64
 {
     let made = StopProtection::try_new(collar);
     match made {
-        NewProtection::Ok(protection) => match protection.check_tick_size(tick_size) {
-            TickCheck::Ok => 0,
-            TickCheck::Err(e) => e.number(),
+        Ok(protection) => match protection.check_tick_size(tick_size) {
+            Ok(()) => 0,
+            Err(e) => e.number(),
         },
-        NewProtection::Err(e) => e.number(),
+        Err(e) => e.number(),
     }
 }
 

@@ -8,7 +8,7 @@ ghost use Rattle.host_words.specs.Answers.{Told, listed_words};
 ghost use Rattle.host_words.specs.ByWords.{collect_by_words, mass_cancel_by_words};
 
 use book::StopWords;
-use collect_words::{of_list, selector_known, selector_of};
+use collect_words::{selector_known, selector_of};
 use host_words::{SelectorWords, UNKNOWN};
 
 pub fn collect(
@@ -25,7 +25,7 @@ pub fn collect(
         return UNKNOWN;
     }
     let collected = collect::collect(s, selector_of(selector), list);
-    of_list(collected, answer)
+    answer_words::answer(collected, answer)
 }
 
 pub fn mass_cancel(
@@ -43,5 +43,5 @@ pub fn mass_cancel(
         return UNKNOWN;
     }
     let cancelled = mass_cancel::mass_cancel(s, selector_of(selector), list);
-    of_list(cancelled, answer)
+    answer_words::answer(cancelled, answer)
 }

@@ -8,7 +8,7 @@ ghost use Rattle.host_words.specs.Answers.{Told, counts_words};
 ghost use Rattle.host_words.specs.ByWords.{ask_by_words, commit_by_words};
 
 use book::{ElectedWords, MovedWords};
-use evaluation_words::{of_evaluation, settings_of};
+use evaluation_words::settings_of;
 use path_words::prints_of;
 
 // Lists what a segment would elect and move, and answers how many moves and elected there would be. The store is only
@@ -30,7 +30,7 @@ pub fn ask_segment(
     let of = settings_of(settings);
     let over = prints_of(prints);
     let asked = evaluate_ask::ask_segment(s, of, over, elected, moved);
-    of_evaluation(asked, answer)
+    answer_words::answer(asked, answer)
 }
 
 // Does the segment, if the store of this moment gives the lists that are handed in, in length and every word, and answers
@@ -50,5 +50,5 @@ pub fn commit_segment(
     let of = settings_of(settings);
     let over = prints_of(prints);
     let committed = evaluate_commit::commit_segment(s, of, over, elected, moved);
-    of_evaluation(committed, answer)
+    answer_words::answer(committed, answer)
 }

@@ -8,7 +8,7 @@ ghost use Rattle.host_words.specs.Answers.{Told, counts_words};
 ghost use Rattle.host_words.specs.ByWords.{segment_by_words, step_by_words, walk_by_words};
 
 use book::{ElectedWords, MovedWords};
-use evaluation_words::{of_evaluation, settings_of};
+use evaluation_words::settings_of;
 use path_words::{last_price_of, prints_of};
 use pricelevel::Price;
 
@@ -31,7 +31,7 @@ pub fn segment(
     let of = settings_of(settings);
     let over = prints_of(prints);
     let evaluated = evaluate_segment::segment(s, of, over, elected, moved);
-    of_evaluation(evaluated, answer)
+    answer_words::answer(evaluated, answer)
 }
 
 // A step of a walk: a point at a price, arrived from another, of a run that falls as a whole (any word but 0) or does not.
@@ -56,7 +56,7 @@ pub fn step(
     let of = settings_of(settings);
     let before = last_price_of(from);
     let evaluated = evaluate_step::step(s, of, falls != 0, before, Price(price), elected, moved);
-    of_evaluation(evaluated, answer)
+    answer_words::answer(evaluated, answer)
 }
 
 // A walk, which lists the elected, and answers how many moves and elected there were. Refused: 1, 14, 16.
@@ -76,5 +76,5 @@ pub fn walk(
     let of = settings_of(settings);
     let before = last_price_of(prev);
     let evaluated = evaluate_walk::walk(s, of, before, prices, elected);
-    of_evaluation(evaluated, answer)
+    answer_words::answer(evaluated, answer)
 }

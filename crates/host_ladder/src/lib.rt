@@ -8,7 +8,6 @@ ghost use Rattle.host_words.specs.Answers.{Told, listed_words};
 ghost use Rattle.host_words.specs.ByWords.{ladder_by_words};
 
 use book::LadderWords;
-use collect_words::of_list;
 
 pub fn ladder(s: &[u64], prices: &[u64], list: &mut [LadderWords], answer: &mut [u64; 1]) -> u64
     ensures { let o = ladder_by_words prices.now s.now (length list.old) in
@@ -16,5 +15,5 @@ pub fn ladder(s: &[u64], prices: &[u64], list: &mut [LadderWords], answer: &mut 
         × (list.new ≡ written (map ladder_words o.listed) list.old) }
 {
     let listed = ladder::ladder(s, prices, list);
-    of_list(listed, answer)
+    answer_words::answer(listed, answer)
 }

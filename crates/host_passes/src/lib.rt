@@ -8,7 +8,7 @@ ghost use Rattle.host_words.specs.Answers.{Told, pass_words};
 ghost use Rattle.host_words.specs.ByWords.{pass_by_words, run_by_words};
 
 use book::ElectedWords;
-use evaluation_words::{of_pass, settings_of};
+use evaluation_words::settings_of;
 use host_words::UNKNOWN;
 use path_words::{last_price_of, path_known, path_of, path_words, prints_of};
 
@@ -30,7 +30,7 @@ pub fn evaluate_pending_stops(
     let of = settings_of(settings);
     let first = prints_of(prints);
     let passed = evaluate_pass::evaluate_pending_stops(s, of, script, first, elected);
-    of_pass(passed, answer)
+    answer_words::answer(passed, answer)
 }
 
 // A run over path and store, up to the last trade: a pass over the path's segment, and the path reset; nothing where no
@@ -60,5 +60,5 @@ pub fn run_stop_triggers(
     let after = run.path;
     *path = path_words(after);
     let given = run.answer;
-    of_pass(given, answer)
+    answer_words::answer(given, answer)
 }

@@ -9,7 +9,7 @@ ghost use Rattle.host_words.specs.ByWords.{cancel_by_words, update_by_words, fin
 use book::StopWords;
 use host_words::{FoundWords, UNKNOWN};
 use path_words::last_price_of;
-use stop_words::{of_find, of_stop, update_known, update_of};
+use stop_words::{update_known, update_of};
 use term_words::{id_known, id_of};
 
 pub fn update_pending_stop(
@@ -33,7 +33,7 @@ pub fn update_pending_stop(
     let change = update_of(update);
     let last = last_price_of(trade);
     let changed = changes::update_pending_stop(s, of, change, last);
-    of_stop(changed, answer)
+    answer_words::answer(changed, answer)
 }
 
 pub fn cancel_pending_stop(s: &mut [u64], id: &[u64; 3], answer: &mut StopWords) -> u64
@@ -46,7 +46,7 @@ pub fn cancel_pending_stop(s: &mut [u64], id: &[u64; 3], answer: &mut StopWords)
     }
     let of = id_of(id);
     let cancelled = store_calls::cancel_pending_stop(s, of);
-    of_stop(cancelled, answer)
+    answer_words::answer(cancelled, answer)
 }
 
 pub fn pending_stop_order(s: &[u64], id: &[u64; 3], answer: &mut FoundWords) -> u64
@@ -57,5 +57,5 @@ pub fn pending_stop_order(s: &[u64], id: &[u64; 3], answer: &mut FoundWords) -> 
     }
     let of = id_of(id);
     let found = store_calls::pending_stop_order(s, of);
-    of_find(found, answer)
+    answer_words::answer(found, answer)
 }

@@ -2,34 +2,22 @@
 #![tactic(auto)]
 
 ghost use Rattle.std.specs.Prelude.{◌≡◌};
-ghost use Rattle.book.specs.Answers.{told_layout, told_quantity};
+ghost use Rattle.error.specs.Answer.{told_answer};
 ghost use Rattle.book.specs.Store.{lay_out, pending_quantity};
 ghost use Rattle.book.specs.Words.{well_formed};
 ghost use Rattle.host_words.specs.Answers.{Told, number, flag, totals_words};
 ghost use Rattle.host_words.specs.ByWords.{clear_by_words};
 
-use book::{LayoutAnswer, QuantityAnswer};
+use error::Refusal;
 use host_words::UNKNOWN;
 use path_words::{flag, path_known, path_of, path_words};
 
-fn of_layout(r: LayoutAnswer) -> u64
-    ensures { result ≡ number (told_layout r) }
+fn of_layout(r: Result<(), Refusal>) -> u64
+    ensures { result ≡ number (told_answer r) }
 {
     match r {
-        LayoutAnswer::Ok => 0,
-        LayoutAnswer::Err(e) => e.number(),
-    }
-}
-
-fn of_quantity(r: QuantityAnswer, answer: &mut [u64; 4]) -> u64
-    ensures { Told totals_words (told_quantity r) answer.old result answer.new }
-{
-    match r {
-        QuantityAnswer::Ok(t) => {
-            *answer = [t.sell.high, t.sell.low, t.buy.high, t.buy.low];
-            0
-        }
-        QuantityAnswer::Err(e) => e.number(),
+        Ok(()) => 0,
+        Err(e) => e.number(),
     }
 }
 
@@ -50,7 +38,7 @@ pub fn well_formed(s: &[u64]) -> u64
 pub fn pending_stop_quantity(s: &[u64], answer: &mut [u64; 4]) -> u64
     ensures { Told totals_words (pending_quantity s.now) answer.old result answer.new }
 {
-    of_quantity(store_calls::pending_stop_quantity(s), answer)
+    answer_words::answer(store_calls::pending_stop_quantity(s), answer)
 }
 
 pub fn clear(s: &mut [u64], path: &mut [u64; 4]) -> u64

@@ -2,7 +2,6 @@
 #![tactic(auto)]
 
 ghost use Rattle.std.specs.Prelude.{◌≡◌};
-ghost use Rattle.repricing.specs.Preview.{told_preview};
 ghost use Rattle.stop_terms.specs.Terms.{inconsistency_number};
 ghost use Rattle.host_words.specs.Answers.{Told, flag, or_zero, terms_words, preview_words};
 ghost use Rattle.host_words.specs.ByWords.{trailed_by_words, elected_by_words, inconsistency_by_words, preview_by_words};
@@ -10,27 +9,27 @@ ghost use Rattle.host_words.specs.ByWords.{trailed_by_words, elected_by_words, i
 use host_words::UNKNOWN;
 use path_words::flag;
 use pricelevel::Price;
-use repricing::TrailingStopPrice;
+use repricing::Adjustment;
 use stop_terms::Inconsistency;
 use term_words::{side_known, terms_known, terms_of, terms_words};
 
-fn preview_words(next: TrailingStopPrice) -> [u64; 3]
-    ensures { result ≡ preview_words (told_preview next) }
+fn preview_words(next: Option<Adjustment>) -> [u64; 3]
+    ensures { result ≡ preview_words next }
 {
     match next {
-        TrailingStopPrice::None => [0, 0, 0],
-        TrailingStopPrice::Adjusted(a) => [1, a.stop.0, a.reference.0],
+        None => [0, 0, 0],
+        Some(a) => [1, a.stop.0, a.reference.0],
     }
 }
 
-fn of_inconsistency(r: Inconsistency) -> u64
+fn of_inconsistency(r: Option<Inconsistency>) -> u64
     ensures { result ≡ or_zero (inconsistency_number r) }
 {
     match r {
-        Inconsistency::None => 0,
-        Inconsistency::ZeroTrail => 5,
-        Inconsistency::SellAboveWatermark => 6,
-        Inconsistency::BuyBelowWatermark => 6,
+        None => 0,
+        Some(Inconsistency::ZeroTrail) => 5,
+        Some(Inconsistency::SellAboveWatermark) => 6,
+        Some(Inconsistency::BuyBelowWatermark) => 6,
     }
 }
 

@@ -1,6 +1,5 @@
 -- The words of what a call answers.
-use Rattle.std.specs.Prelude.{ℕ, ◌+◌, Bool, cond, List, [], ◌∷◌, ◌++◌, ◌≡◌, replicate}
-use Rattle.std.proofs.Math.Option.{Option, none, some}
+use Rattle.std.specs.Prelude.{ℕ, ◌+◌, Bool, cond, List, [], ◌∷◌, ◌++◌, ◌≡◌, replicate, None, Option, Some}
 use Rattle.error.specs.Answer.{Answer, refused, accepted}
 use Rattle.pricelevel.specs.Identity.{kind_number}
 use Rattle.pricelevel.specs.Side.{side_number}
@@ -13,11 +12,10 @@ use Rattle.book.specs.Entries.{stop_words}
 use Rattle.book.specs.declared.Counts.{Counts}
 use Rattle.book.specs.declared.PassCounts.{PassCounts}
 use Rattle.book.specs.declared.Totals.{Totals}
-use Rattle.book.specs.declared.LastPrice.{LastPrice}
-use Rattle.book.specs.declared.LastPrice.TheVariants as last
 use Rattle.book.specs.declared.PrintPath.{PrintPath}
 use Rattle.book.specs.declared.PrintSegment.{PrintSegment}
 use Rattle.book.specs.declared.StopEntry.{StopEntry}
+use Rattle.pricelevel.specs.declared.Price.{Price}
 
 -- what a call returns: 0 where it is accepted, else document 01's number of the refusal
 unfoldable pub number : {A : Type 0} → Answer A → ℕ
@@ -35,8 +33,8 @@ Told words a lent r after = (r ≡ number a) × (after ≡ answered words a lent
 
 -- the question that an inconsistency answers no, or 0
 abbrev pub or_zero : Option ℕ → ℕ
-or_zero none = 0
-or_zero (some k) = k
+or_zero None = 0
+or_zero (Some k) = k
 
 abbrev pub flag : Bool → ℕ
 flag b = cond b 1 0
@@ -58,19 +56,19 @@ abbrev pub path_words : PrintPath → List ℕ
 path_words path = flag path.«open» ∷ flag path.has_prev ∷ path.prev.0 ∷ path.first.0 ∷ []
 
 -- a price that may be absent: present (0, 1), and the price or 0
-abbrev pub price_words : LastPrice → List ℕ
-price_words last.None = replicate 2 0
-price_words (last.At p) = 1 ∷ p.0 ∷ []
+abbrev pub price_words : Option Price → List ℕ
+price_words None = replicate 2 0
+price_words (Some p) = 1 ∷ p.0 ∷ []
 
 -- a segment, if there is one, as a script entry: printed (0, 1), prev present (0, 1), prev, first, last
 abbrev pub segment_words : Option PrintSegment → List ℕ
-segment_words none = replicate 5 0
-segment_words (some s) = 1 ∷ (price_words s.prev ++ (s.first.0 ∷ s.last.0 ∷ []))
+segment_words None = replicate 5 0
+segment_words (Some s) = 1 ∷ (price_words s.prev ++ (s.first.0 ∷ s.last.0 ∷ []))
 
 -- found (0, 1), and the words of the stop or zeros
 abbrev pub found_words : Option StopEntry → List ℕ
-found_words none = replicate (1 + data_length) 0
-found_words (some t) = 1 ∷ stop_words t
+found_words None = replicate (1 + data_length) 0
+found_words (Some t) = 1 ∷ stop_words t
 
 -- of the sells high, low; of the buys high, low
 abbrev pub totals_words : Totals → List ℕ
@@ -90,5 +88,5 @@ pass_words c = c.moves ∷ c.elected ∷ c.used ∷ []
 
 -- adjusted (0, 1), and the new stop and reference or zeros
 abbrev pub preview_words : Option Adjustment → List ℕ
-preview_words none = replicate 3 0
-preview_words (some a) = 1 ∷ a.stop.0 ∷ a.reference.0 ∷ []
+preview_words None = replicate 3 0
+preview_words (Some a) = 1 ∷ a.stop.0 ∷ a.reference.0 ∷ []

@@ -1,6 +1,6 @@
 -- What the words of an argument stand for. Those of a kind, a side, a change, a selector and a path's flags may be unknown; any but
 -- 0 is on for a kill switch, for whether a run falls and for a price that may be absent.
-use Rattle.std.specs.Prelude.{ℕ, Bool, not, cond, ◌&&◌, ◌||◌, List, leb, eqb, get_or}
+use Rattle.std.specs.Prelude.{ℕ, Bool, not, cond, ◌&&◌, ◌||◌, List, leb, eqb, get_or, None, Option, Some}
 use Rattle.error.specs.Answer.{Answer, refused, accepted}
 use Rattle.pricelevel.specs.Holder.{holder_of}
 use Rattle.pricelevel.specs.declared.Holder.{Holder}
@@ -8,14 +8,10 @@ use Rattle.pricelevel.specs.declared.Id.{Id}
 use Rattle.pricelevel.specs.declared.Price.{Price}
 use Rattle.pricelevel.specs.declared.Quantity.{Quantity}
 use Rattle.stop_protection.specs.Collar.{try_new}
-use Rattle.stop_protection.specs.declared.Protection.{Protection}
-use Rattle.stop_protection.specs.declared.Protection.TheVariants as protection
 use Rattle.stop_protection.specs.declared.StopProtection.{StopProtection}
 use Rattle.stop_terms.specs.declared.StopTerms.{StopTerms}
 use Rattle.uuid_v5.specs.declared.Uuid.{Uuid}
 use Rattle.book.specs.Words.{kind_of, side_from}
-use Rattle.book.specs.declared.LastPrice.{LastPrice}
-use Rattle.book.specs.declared.LastPrice.TheVariants as last
 use Rattle.book.specs.declared.OrderUpdate.{OrderUpdate}
 use Rattle.book.specs.declared.OrderUpdate.TheVariants.{UpdateQuantity, UpdatePrice, UpdatePriceAndQuantity, Replace}
 use Rattle.book.specs.declared.PrintPath.{PrintPath}
@@ -52,10 +48,10 @@ abbrev pub holder_from : List ℕ → Holder
 holder_from w = holder_of (get_or w 0 0) (get_or w 1 0) (get_or w 2 0) (get_or w 3 0)
 
 -- a price that may be absent: present, price
-abbrev pub last_price_from : ℕ → ℕ → LastPrice
-last_price_from present p = cond (eqb present 0) last.None (last.At (price p))
+abbrev pub last_price_from : ℕ → ℕ → Option Price
+last_price_from present p = cond (eqb present 0) None (Some (price p))
 
-abbrev pub last_price_of : List ℕ → LastPrice
+abbrev pub last_price_of : List ℕ → Option Price
 last_price_of w = last_price_from (get_or w 0 0) (get_or w 1 0)
 
 -- document 01, One point, one segment, one pass: prev present, prev, first, last
@@ -95,11 +91,11 @@ selector_of w =
     (cond (eqb (get_or w 0 0) 1) (BySide (side_from (get_or w 1 0))) (ByPriceRange (price (get_or w 1 0)) (price (get_or w 2 0))))
 
 -- a collar of 0, which cannot be made, is none
-abbrev pub protection_by : Answer StopProtection → Protection
-protection_by (refused k) = protection.None
-protection_by (accepted p) = protection.Collar p
+abbrev pub protection_by : Answer StopProtection → Option StopProtection
+protection_by (refused k) = None
+protection_by (accepted p) = Some p
 
-abbrev pub protection_of : ℕ → Protection
+abbrev pub protection_of : ℕ → Option StopProtection
 protection_of collar = protection_by (try_new collar)
 
 -- high, low

@@ -1,14 +1,12 @@
 -- The calls with their arguments as words: the outcomes of document 01's calls on what the words stand for. Asked
 -- before all else: is each value known? 255.
-use Rattle.std.specs.Prelude.{ℕ, Bool, cond, ◌&&◌, List, [], map}
-use Rattle.std.proofs.Math.Option.{Option}
+use Rattle.std.specs.Prelude.{ℕ, Bool, cond, ◌&&◌, List, [], map, Option}
 use Rattle.error.specs.Answer.{Answer, refused, accepted}
 use Rattle.pricelevel.specs.declared.Id.{Id}
 use Rattle.pricelevel.specs.declared.Seq.{Seq}
 use Rattle.repricing.specs.Preview.{preview}
 use Rattle.repricing.specs.declared.Adjustment.{Adjustment}
 use Rattle.stop_protection.specs.Collar.{limit_under, check_tick_size}
-use Rattle.stop_protection.specs.declared.Limit.{Limit}
 use Rattle.stop_protection.specs.declared.StopProtection.{StopProtection}
 use Rattle.stop_terms.specs.Terms.{trailed_at, elected_at, inconsistency_of, inconsistency_number}
 use Rattle.stop_terms.specs.declared.StopTerms.{StopTerms}
@@ -33,6 +31,7 @@ use Rattle.book.specs.declared.StopEntry.{StopEntry}
 use Rattle.pricelevel.specs.Price.{to_price}
 use Rattle.host_words.specs.Answers.{flag, or_zero, path_words}
 use Rattle.host_words.specs.Arguments.{is_on, price, id_known, id_of, side_known, terms_known, terms_of, holder_from, selector_known, selector_of, last_price_of, prints_of, path_known, path_of, update_known, update_of, protection_of, namespace_of, settings_of}
+use Rattle.stop_protection.specs.declared.LimitPrice.{LimitPrice}
 
 abbrev pub unknown : {A : Type 0} → Answer A
 unknown = refused 255
@@ -172,7 +171,7 @@ abbrev pub preview_by_words : ℕ → ℕ → ℕ → ℕ → ℕ → Answer (Op
 preview_by_words side stop trail reference p =
     if_known (side_known side) (preview (side_from side) (price stop) trail (price reference) (price p))
 
-abbrev pub limit_by_words : ℕ → ℕ → ℕ → Answer Limit
+abbrev pub limit_by_words : ℕ → ℕ → ℕ → Answer (Option LimitPrice)
 limit_by_words collar side stop = if_known (side_known side) (limit_under (protection_of collar) (side_from side) (price stop))
 
 -- a collar is made before it is held against a tick

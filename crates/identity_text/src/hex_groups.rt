@@ -4,7 +4,7 @@ ghost use Rattle.text_buffer.specs.Writing.{Put};
 ghost use Rattle.text_buffer.specs.Digits.{digits};
 ghost use Rattle.identity_text.specs.Identities.{hex_letter, group_of, uuid_of};
 
-use text_buffer::put_byte;
+use text_buffer::{put_byte, put_in_base};
 
 // A hexadecimal digit in lower case.
 fn hex_letter(d: u64) -> u8
@@ -23,13 +23,7 @@ fn put_hex(buf: &mut [u8], at: usize, k: usize, n: u64) -> usize
     ensures put { Put buf.old at (digits hex_letter 16 k n) buf.new result }
     ensures value { result ≡ at + k }
 {
-    let mut i = k;
-    let mut rest = n;
-    while i > 0 {
-        i -= 1;
-        put_byte(buf, at + i, hex_letter(rest % 16));
-        rest /= 16;
-    }
+    put_in_base(buf, at, k, n, 16, hex_letter);
     at + k
 }
 

@@ -4,16 +4,16 @@ ghost use Rattle.text_buffer.specs.Writing.{Put};
 ghost use Rattle.text_buffer.specs.Digits.{digits};
 ghost use Rattle.identity_text.specs.Identities.{crockford, ulid_of};
 
-use text_buffer::put_byte;
+use text_buffer::put_in_base;
 
 // The digits of base 32: no I, L, O and U.
 const LETTERS: [u8; 32] = *b"0123456789ABCDEFGHJKMNPQRSTVWXYZ";
 
-fn letter(d: usize) -> u8
+fn letter(d: u64) -> u8
     requires { d < 32 }
     ensures { result ≡ crockford d }
 {
-    LETTERS[d]
+    LETTERS[d as usize]
 }
 
 // Puts the last k digits of a word in base 32 from a place on.
@@ -22,13 +22,7 @@ fn put_letters(buf: &mut [u8], at: usize, k: usize, n: u64) -> usize
     ensures put { Put buf.old at (digits crockford 32 k n) buf.new result }
     ensures value { result ≡ at + k }
 {
-    let mut i = k;
-    let mut rest = n;
-    while i > 0 {
-        i -= 1;
-        put_byte(buf, at + i, letter((rest % 32) as usize));
-        rest /= 32;
-    }
+    put_in_base(buf, at, k, n, 32, letter);
     at + k
 }
 

@@ -84,9 +84,7 @@ fn keys_differ(s: &[u64], n: u64, key: Key) -> bool
 {
     let mut heads = [0u64; BUCKETS as usize];
     let mut nexts = [0u64; MOST_RECORDS + 1];
-    let mut i: u64 = 1;
-    let mut left = n;
-    while left > 0 {
+    for i in 1..n + 1 {
         if word(s, n, i, 7) != 0 {
             let h = bucket_of(s, n, key, i);
             let p = heads[h];
@@ -96,8 +94,6 @@ fn keys_differ(s: &[u64], n: u64, key: Key) -> bool
             nexts[i as usize] = p;
             heads[h] = i;
         }
-        i = i + 1;
-        left = left - 1;
     }
     true
 }

@@ -3,7 +3,6 @@ use Prim.Native.Nat.{ℕ, ◌≤◌}
 use mathlib.Core.Path.{◌≡◌, refl, sym, ap, ◌∙◌}
 use mathlib.Core.Bool.{true}
 use mathlib.Core.List.{List, [], ◌∷◌, map}
-use mathlib.Core.Option.{none, some}
 use borrow.Author.Tests.{leb-true}
 use lib.Dec.{leb}
 use lib.ListN.{length, take, length-map}
@@ -24,8 +23,9 @@ use Rattle.book.specs.Words.{book_of, slots_at, well_formed}
 use Rattle.by_sequence.proofs.Sequenced.{entry_there}
 use Rattle.by_sequence.specs.Begins.{Begins}
 use Rattle.ladder.specs.Records.{ladder_words_in}
+use Rattle.std.specs.Prelude.{None, Some}
 
-module _ (prices : List Price) (w : List ℕ) (list : ℕ) (h : none ≡ first_no (ladder_questions prices w list)) where
+module _ (prices : List Price) (w : List ℕ) (list : ℕ) (h : None ≡ first_no (ladder_questions prices w list)) where
   pub ladder-formed : well_formed w ≡ true
   unfolding ladder_questions
   ladder-formed = (first_no_none (ladder_questions prices w list) (sym h)).0
@@ -46,13 +46,13 @@ entries_there prices w n [] h = refl
 entries_there prices w n (p ∷ l) h = rw (entry_there w n p h.0, entries_there prices w n l h.1)
 
 module _ (prices : List Price) (w : List ℕ) (list : List (List ℕ)) where
-  pub ladder_refused : (k : ℕ) → some k ≡ first_no (ladder_questions prices w (length list))
+  pub ladder_refused : (k : ℕ) → Some k ≡ first_no (ladder_questions prices w (length list))
       → (refused k ≡ (ladder prices w (length list)).answer)
       × (list ≡ written (map ladder_words (ladder prices w (length list)).listed) list)
   unfolding ladder decide written
   ladder_refused k h = rw (← h) (refl, refl)
 
-  pub ladder_done : (m : ℕ) (o : List ℕ) (after : List (List ℕ)) → none ≡ first_no (ladder_questions prices w (length list))
+  pub ladder_done : (m : ℕ) (o : List ℕ) (after : List (List ℕ)) → None ≡ first_no (ladder_questions prices w (length list))
       → Begins o m (indices (by_sequence (book_of w).slots))
       → after ≡ written (map (ladder_words_in prices w) (take m o)) list
       → (accepted m ≡ (ladder prices w (length list)).answer)

@@ -5,7 +5,7 @@
 #![tactic(auto)]
 
 ghost use Rattle.std.specs.Prelude.{map, ◌≡◌, ◌≤◌, length, take};
-ghost use Rattle.book.specs.Answers.{told_list};
+ghost use Rattle.error.specs.Answer.{told_answer};
 ghost use Rattle.book.specs.Calls.{written};
 ghost use Rattle.book.specs.Ladder.{ladder_words, ladder_questions, ladder};
 ghost use Rattle.book.specs.Sizes.{most_trial_prices};
@@ -15,22 +15,22 @@ ghost use Rattle.ladder.specs.Records.{ladder_words_in};
 ghost use Rattle.merging.specs.Named.{Named};
 ghost use Rattle.pricelevel.specs.Price.{to_price};
 
-use book::{LadderWords, ListAnswer, MOST_RECORDS, MOST_TRIAL_PRICES};
+use book::{LadderWords, MOST_RECORDS, MOST_TRIAL_PRICES};
 use by_sequence::by_sequence;
-use error::{Refusal, Verdict};
+use error::{Ask, Refusal};
 use form::well_formed;
 use stored_stops::terms_at;
 use trial_prices::ladder_entry;
 
 // The questions: 1, 19, 14.
-fn ask_ladder(s: &[u64], prices: &[u64], list: usize) -> Verdict
+fn ask_ladder(s: &[u64], prices: &[u64], list: usize) -> Result<(), Refusal>
     ensures { told_verdict result ≡ first_no (ladder_questions (map to_price prices.now) s.now list) }
 {
     if !well_formed(s) {
-        return Verdict::Refused(Refusal::StoreNotWellFormed);
+        return Err(Refusal::StoreNotWellFormed);
     }
     let count = s[1] as usize;
-    Verdict::Accepted
+    Ok(())
         .ask(prices.len() >= 1, Refusal::TrialPriceCountOutOfRange)
         .ask(
             prices.len() <= MOST_TRIAL_PRICES,
@@ -52,31 +52,23 @@ fn list_entries(
     requires prices_len_bound { length prices.now ≤ most_trial_prices }
     ensures { list.new ≡ written (map (ladder_words_in (map to_price prices.now) s.now) (take m order.now)) list.old }
 {
-    let mut i: usize = 0;
-    while i < m {
-        let x = order[i];
-        let terms = terms_at(s, n, x);
+    for i in 0..m {
+        let terms = terms_at(s, n, order[i]);
         list[i] = ladder_entry(terms, prices);
-        i += 1;
     }
 }
 
 // Lists which of the prices elect each pending stop, by rising sequence, from the start of the list; later entries stay.
 // Refused: the store is not well formed (1); not 1 to 64 prices (19); the list is shorter than the pending count (14).
-pub fn ladder(s: &[u64], prices: &[u64], list: &mut [LadderWords]) -> ListAnswer
+pub fn ladder(s: &[u64], prices: &[u64], list: &mut [LadderWords]) -> Result<u64, Refusal>
     ensures { let o = ladder (map to_price prices.now) s.now (length list.old) in
-        (told_list result ≡ o.answer)
+        (told_answer result ≡ o.answer)
         × (list.new ≡ written (map ladder_words o.listed) list.old) }
 {
-    let verdict = ask_ladder(s, prices, list.len());
-    match verdict {
-        Verdict::Refused(e) => ListAnswer::Err(e),
-        Verdict::Accepted => {
-            let mut order = [0u64; MOST_RECORDS];
-            let n = s[0];
-            let k = by_sequence(s, n, &mut order[..]);
-            list_entries(s, n, prices, &order[..], k, list);
-            ListAnswer::Ok(k as u64)
-        }
-    }
+    ask_ladder(s, prices, list.len())?;
+    let mut order = [0u64; MOST_RECORDS];
+    let n = s[0];
+    let k = by_sequence(s, n, &mut order[..]);
+    list_entries(s, n, prices, &order[..], k, list);
+    Ok(k as u64)
 }

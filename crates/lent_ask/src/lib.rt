@@ -2,12 +2,13 @@
 #![tactic(auto)]
 
 ghost use Rattle.std.specs.Prelude.{◌≡◌, length};
-ghost use Rattle.book.specs.Answers.{told_counts};
+ghost use Rattle.error.specs.Answer.{told_answer};
 ghost use Rattle.book.specs.Calls.{written};
 ghost use Rattle.book.specs.Commit.{ask_call};
 
-use book::{Elected, EvaluationAnswer, Moved, PrintSegment, STORE_WORDS, Settings};
+use book::{Counts, Elected, Moved, PrintSegment, STORE_WORDS, Settings};
 use copying::copy_start;
+use error::Refusal;
 use lent_segment::segment;
 
 // What a segment would elect and move: both are written from the start of the lists; later entries stay, and so does the
@@ -18,9 +19,9 @@ pub fn ask_segment(
     prints: PrintSegment,
     elected: &mut [Elected],
     moved: &mut [Moved],
-) -> EvaluationAnswer
+) -> Result<Counts, Refusal>
     ensures { let o = ask_call settings prints s.now (length elected.old) (length moved.old) in
-        (told_counts result ≡ o.answer)
+        (told_answer result ≡ o.answer)
         × (elected.new ≡ written o.elected elected.old)
         × (moved.new ≡ written o.moved moved.old) }
 {

@@ -3,17 +3,19 @@
 // written, and later ones, which stay.
 #![tactic(auto)]
 
-use book::{
-    Elected, EvaluationAnswer, HEADER_WORDS, LastPrice, Moved, PrintPath, PrintSegment,
-    RECORD_WORDS, Settings,
-};
+use book::{Counts, Elected, HEADER_WORDS, Moved, PrintPath, PrintSegment, RECORD_WORDS, Settings};
+use error::Refusal;
 use pricelevel::{Holder, Id, IdKind, Price, Quantity, Seq, Side};
-use stop_protection::{Limit, Protection};
 use stop_terms::StopTerms;
 use uuid_v5::Uuid;
 
 // A path after a print, which is recorded on it where it is lent.
-fn recorded_once(mut path: PrintPath, pending: u64, prev: LastPrice, price: Price) -> PrintPath {
+fn recorded_once(
+    mut path: PrintPath,
+    pending: u64,
+    prev: Option<Price>,
+    price: Price,
+) -> PrintPath {
     stop_orders::record_print(&mut path, pending, prev, price);
     path
 }
@@ -75,15 +77,15 @@ fn print_moved(m: Moved) {
     io::write_all(1, b"\n");
 }
 
-fn print_answer(answer: EvaluationAnswer) {
+fn print_answer(answer: Result<Counts, Refusal>) {
     match answer {
-        EvaluationAnswer::Ok(c) => {
+        Ok(c) => {
             io::write_all(1, b"moves");
             number(c.moves);
             io::write_all(1, b" elected");
             number(c.elected);
         }
-        EvaluationAnswer::Err(refusal) => {
+        Err(refusal) => {
             io::write_all(1, b"refused");
             number(refusal.number());
         }
@@ -91,20 +93,21 @@ fn print_answer(answer: EvaluationAnswer) {
     io::write_all(1, b"\n");
 }
 
-fn print_segment(answer: EvaluationAnswer, elected: [Elected; 2], moved: [Moved; 3]) {
+fn print_segment(answer: Result<Counts, Refusal>, elected: [Elected; 2], moved: [Moved; 3]) {
     print_answer(answer);
-    print_elected(elected[0]);
-    print_elected(elected[1]);
-    print_moved(moved[0]);
-    print_moved(moved[1]);
-    print_moved(moved[2]);
+    for e in elected {
+        print_elected(e);
+    }
+    for m in moved {
+        print_moved(m);
+    }
 }
 
 fn id(low: u64) -> Id {
     Id {
         kind: IdKind::Uuid,
         high: 0,
-        low: low,
+        low,
     }
 }
 
@@ -116,7 +119,7 @@ fn blank_elected() -> Elected {
         quantity: Quantity(0),
         seq: Seq(0),
         trigger: Price(0),
-        limit: Limit::None,
+        limit: None,
         child: id(0),
         pending: false,
     }
@@ -131,8 +134,8 @@ fn elected_at(trigger: Price) -> Elected {
         stop: Price(97),
         quantity: Quantity(2),
         seq: Seq(0),
-        trigger: trigger,
-        limit: Limit::None,
+        trigger,
+        limit: None,
         child: stop_orders::stop_trigger_order_id(Uuid { high: 0, low: 0 }, id(7)),
         pending: false,
     }
@@ -174,7 +177,7 @@ fn closed_path() -> PrintPath {
 fn settings() -> Settings {
     Settings {
         kill: false,
-        protection: Protection::None,
+        protection: None,
         namespace: Uuid { high: 0, low: 0 },
     }
 }
@@ -186,7 +189,7 @@ fn begin(s: &mut [u64]) -> PrintPath {
         s,
         closed_path(),
         false,
-        LastPrice::None,
+        None,
         id(7),
         terms(),
         Quantity(2),
@@ -217,14 +220,14 @@ fn ask_and_commit(s: &mut [u64], prints: PrintSegment) {
 fn main() {
     let mut s = [0u64; HEADER_WORDS + RECORD_WORDS * 4];
     let before = begin(&mut s);
-    let path = recorded_once(before, 1, LastPrice::None, Price(102));
+    let path = recorded_once(before, 1, None, Price(102));
     let first = path.first;
     io::write_all(1, b"path");
     number(first.0);
     io::write_all(1, b"\n");
     let prints = PrintSegment {
-        prev: LastPrice::None,
-        first: first,
+        prev: None,
+        first,
         last: Price(96),
     };
     ask_and_commit(&mut s, prints);

@@ -3,16 +3,17 @@
 #![tactic(auto)]
 
 ghost use Rattle.std.specs.Prelude.{◌≡◌};
-ghost use Rattle.book.specs.Answers.{told_counts};
+ghost use Rattle.error.specs.Answer.{told_answer};
 ghost use Rattle.book.specs.Commit.{same_records, commit_call};
 ghost use Rattle.lent_commit.specs.Handed.{same_elected_records};
 
 use book::{
-    ELECTED_WORDS, Elected, EvaluationAnswer, MOST_MOVES, MOST_RECORDS, MOVED_WORDS, Moved,
-    MovedWords, PrintSegment, Settings,
+    Counts, ELECTED_WORDS, Elected, MOST_MOVES, MOST_RECORDS, MOVED_WORDS, Moved, MovedWords,
+    PrintSegment, Settings,
 };
 use copying::least;
-use lent_entries::{read_elected, read_moved};
+use error::Refusal;
+use lent_entries::read;
 
 // One entry more than a store can elect, and than a segment can move.
 const ELECTED_ROOM: usize = MOST_RECORDS + 1;
@@ -26,14 +27,14 @@ fn commit_moving(
     prints: PrintSegment,
     moved: &[MovedWords],
     elected: &[Elected],
-) -> EvaluationAnswer
+) -> Result<Counts, Refusal>
     ensures { let o = commit_call (same_elected_records elected.now moved.now) settings prints s.old in
-        (told_counts result ≡ o.answer)
+        (told_answer result ≡ o.answer)
         × (s.new ≡ o.words) }
 {
     let mut words = [[0u64; ELECTED_WORDS]; ELECTED_ROOM];
     let room = least(elected.len(), ELECTED_ROOM);
-    read_elected(&mut words, elected, room);
+    read(&mut words, elected, room);
     evaluate_commit::commit_segment(s, settings, prints, &words[..room], moved)
 }
 
@@ -45,13 +46,13 @@ pub fn commit_segment(
     prints: PrintSegment,
     elected: &[Elected],
     moved: &[Moved],
-) -> EvaluationAnswer
+) -> Result<Counts, Refusal>
     ensures { let o = commit_call (same_records elected.now moved.now) settings prints s.old in
-        (told_counts result ≡ o.answer)
+        (told_answer result ≡ o.answer)
         × (s.new ≡ o.words) }
 {
     let mut words = [[0u64; MOVED_WORDS]; MOVED_ROOM];
     let room = least(moved.len(), MOVED_ROOM);
-    read_moved(&mut words, moved, room);
+    read(&mut words, moved, room);
     commit_moving(s, settings, prints, &words[..room], elected)
 }

@@ -3,12 +3,13 @@
 #![tactic(auto)]
 
 ghost use Rattle.std.specs.Prelude.{◌≡◌, length};
-ghost use Rattle.book.specs.Answers.{told_pass};
+ghost use Rattle.error.specs.Answer.{told_answer};
 ghost use Rattle.book.specs.Calls.{written, pass_call};
 
-use book::{ELECTED_WORDS, Elected, MOST_RECORDS, PassAnswer, PrintSegment, Settings};
+use book::{ELECTED_WORDS, Elected, MOST_RECORDS, PassCounts, PrintSegment, Settings};
 use copying::least;
-use lent_lists::fill_elected;
+use error::Refusal;
+use lent_lists::fill;
 use word_rooms::pass_count;
 
 // A pass: segments from a queue, at first this one, until it or the store is empty. Each elected stop whose child
@@ -21,9 +22,9 @@ pub fn evaluate_pending_stops(
     script: &[u64],
     prints: PrintSegment,
     elected: &mut [Elected],
-) -> PassAnswer
+) -> Result<PassCounts, Refusal>
     ensures { let o = pass_call settings script.now prints s.old (length elected.old) in
-        (told_pass result ≡ o.answer)
+        (told_answer result ≡ o.answer)
         × (s.new ≡ o.words)
         × (elected.new ≡ written o.elected elected.old) }
 {
@@ -36,6 +37,6 @@ pub fn evaluate_pending_stops(
         prints,
         &mut words[..room],
     );
-    fill_elected(elected, &words, pass_count(answer));
+    fill(elected, &words, pass_count(answer));
     answer
 }

@@ -4,22 +4,21 @@
 
 ghost use Rattle.std.specs.Prelude.{◌≡◌};
 ghost use Rattle.book.specs.Path.{recorded, closed, take};
-ghost use Rattle.print_path.specs.Segments.{told_next};
 
-use book::{LastPrice, PrintPath};
+use book::{PrintPath, PrintSegment};
 use pricelevel::Price;
-use print_path::{NextSegment, closed, recorded, taken};
+use print_path::{closed, recorded, taken};
 
 // Records a print, given how many stops are pending: a sweep's first print opens the path, if there are any.
-pub fn record_print(path: &mut PrintPath, pending: u64, prev: LastPrice, price: Price)
+pub fn record_print(path: &mut PrintPath, pending: u64, prev: Option<Price>, price: Price)
     ensures { path.new ≡ recorded pending prev price path.old }
 {
     *path = recorded(*path, pending, prev, price);
 }
 
 // Takes the path's segment, up to the last trade, and closes the path.
-pub fn take_path(path: &mut PrintPath, trade: LastPrice) -> NextSegment
-    ensures result_value { told_next result ≡ (take path.old trade).segment }
+pub fn take_path(path: &mut PrintPath, trade: Option<Price>) -> Option<PrintSegment>
+    ensures result_value { result ≡ (take path.old trade).segment }
     ensures path_after { path.new ≡ (take path.old trade).path }
 {
     let t = taken(*path, trade);

@@ -2,25 +2,26 @@
 #![tactic(auto)]
 
 ghost use Rattle.std.specs.Prelude.{map, ◌≡◌, length};
-ghost use Rattle.book.specs.Answers.{told_pass};
+ghost use Rattle.error.specs.Answer.{told_answer};
 ghost use Rattle.book.specs.Calls.{written, run_call};
 ghost use Rattle.evaluation.specs.Counts.{pass_count};
 ghost use Rattle.book.specs.Entries.{elected_words};
 ghost use Rattle.lent_run.specs.Runs.{told_run};
 
 use book::{
-    ELECTED_WORDS, Elected, ElectedWords, LastPrice, MOST_RECORDS, PassAnswer, PrintPath, Settings,
-    StopRun,
+    ELECTED_WORDS, Elected, ElectedWords, MOST_RECORDS, PassCounts, PrintPath, Settings, StopRun,
 };
 use copying::least;
-use lent_lists::fill_elected;
+use error::Refusal;
+use lent_lists::fill;
+use pricelevel::Price;
 use word_rooms::pass_count;
 
 // The path that a run begins with, and the last trade.
 #[derive(Clone, Copy)]
 struct Start {
     path: PrintPath,
-    trade: LastPrice,
+    trade: Option<Price>,
 }
 
 // A run over store and words, the path by value.
@@ -43,7 +44,7 @@ fn run_words(
 
 // How many entries a run elected; none where it was refused.
 fn run_count(run: StopRun) -> usize
-    ensures { result ≡ pass_count (told_pass run.answer) }
+    ensures { result ≡ pass_count (told_answer run.answer) }
 {
     let answer = run.answer;
     pass_count(answer)
@@ -65,7 +66,7 @@ fn run_listed(
     let mut words = [[0u64; ELECTED_WORDS]; MOST_RECORDS];
     let room = least(elected.len(), MOST_RECORDS);
     let run = run_words(s, settings, &script[..], start, &mut words[..room]);
-    fill_elected(elected, &words, run_count(run));
+    fill(elected, &words, run_count(run));
     run
 }
 
@@ -76,11 +77,11 @@ pub fn run_stop_triggers(
     path: &mut PrintPath,
     settings: Settings,
     script: &[u64],
-    trade: LastPrice,
+    trade: Option<Price>,
     elected: &mut [Elected],
-) -> PassAnswer
+) -> Result<PassCounts, Refusal>
     ensures { let o = run_call settings script.now trade s.old (length elected.old) path.old in
-        (told_pass result ≡ o.answer)
+        (told_answer result ≡ o.answer)
         × (s.new ≡ o.words)
         × (elected.new ≡ written o.elected elected.old)
         × (path.new ≡ o.path) }

@@ -3,16 +3,17 @@
 #![tactic(auto)]
 
 ghost use Rattle.std.specs.Prelude.{map, ◌≡◌, length};
-ghost use Rattle.book.specs.Answers.{told_counts};
+ghost use Rattle.error.specs.Answer.{told_answer};
 ghost use Rattle.book.specs.Calls.{written, segment_call};
 ghost use Rattle.book.specs.Entries.{moved_words};
 
 use book::{
-    ELECTED_WORDS, Elected, EvaluationAnswer, MOST_MOVES, MOST_RECORDS, MOVED_WORDS, Moved,
-    MovedWords, PrintSegment, Settings,
+    Counts, ELECTED_WORDS, Elected, MOST_MOVES, MOST_RECORDS, MOVED_WORDS, Moved, MovedWords,
+    PrintSegment, Settings,
 };
 use copying::least;
-use lent_lists::{fill_elected, fill_moved};
+use error::Refusal;
+use lent_lists::fill;
 use word_rooms::{elected_count, moved_count};
 
 // A segment with the words of what it moves.
@@ -22,9 +23,9 @@ fn segment_moving(
     prints: PrintSegment,
     moved: &mut [MovedWords],
     elected: &mut [Elected],
-) -> EvaluationAnswer
+) -> Result<Counts, Refusal>
     ensures { let o = segment_call settings prints s.old (length elected.old) (length moved.old) in
-        (told_counts result ≡ o.answer)
+        (told_answer result ≡ o.answer)
         × (s.new ≡ o.words)
         × (moved.new ≡ written (map moved_words o.moved) moved.old)
         × (elected.new ≡ written o.elected elected.old) }
@@ -32,7 +33,7 @@ fn segment_moving(
     let mut words = [[0u64; ELECTED_WORDS]; MOST_RECORDS];
     let room = least(elected.len(), MOST_RECORDS);
     let answer = evaluate_segment::segment(s, settings, prints, &mut words[..room], moved);
-    fill_elected(elected, &words, elected_count(answer));
+    fill(elected, &words, elected_count(answer));
     answer
 }
 
@@ -45,9 +46,9 @@ pub fn segment(
     prints: PrintSegment,
     elected: &mut [Elected],
     moved: &mut [Moved],
-) -> EvaluationAnswer
+) -> Result<Counts, Refusal>
     ensures { let o = segment_call settings prints s.old (length elected.old) (length moved.old) in
-        (told_counts result ≡ o.answer)
+        (told_answer result ≡ o.answer)
         × (s.new ≡ o.words)
         × (elected.new ≡ written o.elected elected.old)
         × (moved.new ≡ written o.moved moved.old) }
@@ -55,6 +56,6 @@ pub fn segment(
     let mut words = [[0u64; MOVED_WORDS]; MOST_MOVES];
     let room = least(moved.len(), MOST_MOVES);
     let answer = segment_moving(s, settings, prints, &mut words[..room], elected);
-    fill_moved(moved, &words, moved_count(answer));
+    fill(moved, &words, moved_count(answer));
     answer
 }

@@ -3,17 +3,18 @@
 #![tactic(auto)]
 
 ghost use Rattle.std.specs.Prelude.{map, ◌≡◌, length};
-ghost use Rattle.book.specs.Answers.{told_counts};
+ghost use Rattle.error.specs.Answer.{told_answer};
 ghost use Rattle.book.specs.Calls.{written};
 ghost use Rattle.book.specs.Entries.{elected_words, moved_words};
 ghost use Rattle.book.specs.StepCall.{step_call};
 
 use book::{
-    ELECTED_WORDS, Elected, ElectedWords, EvaluationAnswer, LastPrice, MOST_MOVES, MOST_RECORDS,
-    MOVED_WORDS, Moved, MovedWords, Settings,
+    Counts, ELECTED_WORDS, Elected, ElectedWords, MOST_MOVES, MOST_RECORDS, MOVED_WORDS, Moved,
+    MovedWords, Settings,
 };
 use copying::least;
-use lent_lists::{fill_elected, fill_moved};
+use error::Refusal;
+use lent_lists::fill;
 use pricelevel::Price;
 use word_rooms::{elected_count, moved_count};
 
@@ -21,7 +22,7 @@ use word_rooms::{elected_count, moved_count};
 #[derive(Clone, Copy)]
 pub struct PrintStep {
     pub falls: bool,
-    pub from: LastPrice,
+    pub from: Option<Price>,
     pub price: Price,
 }
 
@@ -32,9 +33,9 @@ fn step_words(
     print: PrintStep,
     elected: &mut [ElectedWords],
     moved: &mut [MovedWords],
-) -> EvaluationAnswer
+) -> Result<Counts, Refusal>
     ensures { let o = step_call settings print.falls print.from print.price s.old (length elected.old) (length moved.old) in
-        (told_counts result ≡ o.answer)
+        (told_answer result ≡ o.answer)
         × (s.new ≡ o.words)
         × (elected.new ≡ written (map elected_words o.elected) elected.old)
         × (moved.new ≡ written (map moved_words o.moved) moved.old) }
@@ -52,9 +53,9 @@ fn step_moving(
     print: PrintStep,
     moved: &mut [MovedWords],
     elected: &mut [Elected],
-) -> EvaluationAnswer
+) -> Result<Counts, Refusal>
     ensures { let o = step_call settings print.falls print.from print.price s.old (length elected.old) (length moved.old) in
-        (told_counts result ≡ o.answer)
+        (told_answer result ≡ o.answer)
         × (s.new ≡ o.words)
         × (moved.new ≡ written (map moved_words o.moved) moved.old)
         × (elected.new ≡ written o.elected elected.old) }
@@ -62,7 +63,7 @@ fn step_moving(
     let mut words = [[0u64; ELECTED_WORDS]; MOST_RECORDS];
     let room = least(elected.len(), MOST_RECORDS);
     let answer = step_words(s, settings, print, &mut words[..room], moved);
-    fill_elected(elected, &words, elected_count(answer));
+    fill(elected, &words, elected_count(answer));
     answer
 }
 
@@ -75,9 +76,9 @@ pub fn step(
     print: PrintStep,
     elected: &mut [Elected],
     moved: &mut [Moved],
-) -> EvaluationAnswer
+) -> Result<Counts, Refusal>
     ensures { let o = step_call settings print.falls print.from print.price s.old (length elected.old) (length moved.old) in
-        (told_counts result ≡ o.answer)
+        (told_answer result ≡ o.answer)
         × (s.new ≡ o.words)
         × (elected.new ≡ written o.elected elected.old)
         × (moved.new ≡ written o.moved moved.old) }
@@ -85,6 +86,6 @@ pub fn step(
     let mut words = [[0u64; MOVED_WORDS]; MOST_MOVES];
     let room = least(moved.len(), MOST_MOVES);
     let answer = step_moving(s, settings, print, &mut words[..room], elected);
-    fill_moved(moved, &words, moved_count(answer));
+    fill(moved, &words, moved_count(answer));
     answer
 }

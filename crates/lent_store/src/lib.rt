@@ -2,11 +2,12 @@
 #![tactic(auto)]
 
 ghost use Rattle.std.specs.Prelude.{◌≡◌};
-ghost use Rattle.book.specs.Answers.{told_admission, told_layout};
+ghost use Rattle.error.specs.Answer.{told_answer};
 ghost use Rattle.book.specs.Store.{clear, admit};
 
-use book::{AdmissionAnswer, LastPrice, LayoutAnswer, PrintPath};
-use pricelevel::{Holder, Id, Quantity};
+use book::PrintPath;
+use error::Refusal;
+use pricelevel::{Holder, Id, Price, Quantity, Seq};
 use stop_terms::StopTerms;
 
 // Admits a stop for its holder. Refused: the store is not well formed (1); the kill switch is on (3); quantity (4) or trail (5) zero;
@@ -16,13 +17,13 @@ pub fn admit_trailing_stop(
     s: &mut [u64],
     path: &mut PrintPath,
     kill: bool,
-    trade: LastPrice,
+    trade: Option<Price>,
     id: Id,
     terms: StopTerms,
     quantity: Quantity,
     holder: Holder,
-) -> AdmissionAnswer
-    ensures result_value { told_admission result ≡ (admit kill trade id terms quantity holder s.old path.old).answer }
+) -> Result<Seq, Refusal>
+    ensures result_value { told_answer result ≡ (admit kill trade id terms quantity holder s.old path.old).answer }
     ensures path_after { path.new ≡ (admit kill trade id terms quantity holder s.old path.old).path }
     ensures s_after { s.new ≡ (admit kill trade id terms quantity holder s.old path.old).words }
 {
@@ -35,8 +36,8 @@ pub fn admit_trailing_stop(
 
 // Lays the store out anew with the same number of records and tick, and resets the path. Refused: it is not well formed
 // (1).
-pub fn clear(s: &mut [u64], path: &mut PrintPath) -> LayoutAnswer
-    ensures result_value { told_layout result ≡ (clear s.old path.old).answer }
+pub fn clear(s: &mut [u64], path: &mut PrintPath) -> Result<(), Refusal>
+    ensures result_value { told_answer result ≡ (clear s.old path.old).answer }
     ensures path_after { path.new ≡ (clear s.old path.old).path }
     ensures s_after { s.new ≡ (clear s.old path.old).words }
 {

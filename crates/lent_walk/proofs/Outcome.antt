@@ -5,13 +5,13 @@ use Rattle.pricelevel.specs.declared.Price.{Price}
 use Rattle.book.specs.Calls.{walk_call}
 use Rattle.book.specs.Entries.{elected_words}
 use Rattle.book.specs.Sizes.{most_records}
-use Rattle.book.specs.declared.LastPrice.{LastPrice}
 use Rattle.book.specs.declared.Settings.{Settings}
 use Rattle.evaluation.specs.Counts.{elected_count}
 use Rattle.evaluation.proofs.Rooms.{walk_lists, walk_cut}
 use Rattle.word_rooms.proofs.Listings.{elected_of, entries_read, Lists}
+use Rattle.std.specs.Prelude.{Option}
 
-pub electing : (settings : Settings) (prev : LastPrice) (prices : List Price) (w : List ℕ)
+pub electing : (settings : Settings) (prev : Option Price) (prices : List Price) (w : List ℕ)
     → Lists elected_words elected_of most_records (λ o. elected_count o.answer) (λ o. o.elected)
     (walk_call settings prev prices w)
 electing settings prev prices w = record {

@@ -3,13 +3,15 @@
 #![tactic(auto)]
 
 ghost use Rattle.std.specs.Prelude.{map, ◌≡◌, length};
-ghost use Rattle.book.specs.Answers.{told_counts};
+ghost use Rattle.error.specs.Answer.{told_answer};
 ghost use Rattle.book.specs.Calls.{written, walk_call};
 ghost use Rattle.pricelevel.specs.Price.{to_price};
 
-use book::{ELECTED_WORDS, Elected, EvaluationAnswer, LastPrice, MOST_RECORDS, Settings};
+use book::{Counts, ELECTED_WORDS, Elected, MOST_RECORDS, Settings};
 use copying::least;
-use lent_lists::fill_elected;
+use error::Refusal;
+use lent_lists::fill;
+use pricelevel::Price;
 use word_rooms::elected_count;
 
 // A walk: a point at each price in turn. The elected are written from the start of the list; later entries stay.
@@ -18,18 +20,18 @@ use word_rooms::elected_count;
 pub fn walk(
     s: &mut [u64],
     settings: Settings,
-    prev: LastPrice,
+    prev: Option<Price>,
     prices: &[u64],
     elected: &mut [Elected],
-) -> EvaluationAnswer
+) -> Result<Counts, Refusal>
     ensures { let o = walk_call settings prev (map to_price prices.now) s.old (length elected.old) in
-        (told_counts result ≡ o.answer)
+        (told_answer result ≡ o.answer)
         × (s.new ≡ o.words)
         × (elected.new ≡ written o.elected elected.old) }
 {
     let mut words = [[0u64; ELECTED_WORDS]; MOST_RECORDS];
     let room = least(elected.len(), MOST_RECORDS);
     let answer = evaluate_walk::walk(s, settings, prev, &prices[..], &mut words[..room]);
-    fill_elected(elected, &words, elected_count(answer));
+    fill(elected, &words, elected_count(answer));
     answer
 }

@@ -4,7 +4,6 @@ use native.Mathlib.Omega.{arith}
 use mathlib.Core.Path.{◌≡◌, refl, sym, ap, ◌∙◌}
 use mathlib.Core.Bool.{Bool, true, false, cond}
 use mathlib.Core.List.{List, [], ◌∷◌}
-use mathlib.Core.Option.{Option, none, some}
 use borrow.Author.Tests.{ltb-true, ltb-false, lt-ltb}
 use borrow.Table.Steps.{cases}
 use Rattle.book.proofs.Lists.{all_map, all_map_both}
@@ -17,6 +16,7 @@ use Rattle.book.specs.declared.StopEntry.{StopEntry}
 use Rattle.chains.proofs.Ranks.{before-rank}
 use Rattle.chains.specs.Rank.{rank}
 use Rattle.book.specs.Lists.{sort_by, insert_by, All}
+use Rattle.std.specs.Prelude.{None, Option, Some}
 
 module _ (keep : StopEntry → Bool) where
   -- the stops that pass a test
@@ -25,8 +25,8 @@ module _ (keep : StopEntry → Bool) where
   chosen (p ∷ l) = cond (keep p.entry) (p ∷ chosen l) (chosen l)
 
   unfoldable pub chosen_of : Option StopEntry → Option StopEntry
-  chosen_of none = none
-  chosen_of (some t) = cond (keep t) (some t) none
+  chosen_of None = None
+  chosen_of (Some t) = cond (keep t) (Some t) None
 
   chosen_all : (P : Pending → Type 0) (l : List Pending) → All P l → All P (chosen l)
   unfolding chosen
@@ -37,8 +37,8 @@ module _ (keep : StopEntry → Bool) where
   chosen-with_index : (i : ℕ) (o : Option StopEntry) (l : List Pending)
       → chosen (with_index i o l) ≡ with_index i (chosen_of o) (chosen l)
   unfolding chosen chosen_of with_index
-  chosen-with_index i none l = refl
-  chosen-with_index i (some t) l = cases (keep t) (λ e. rw e) (λ e. rw e)
+  chosen-with_index i None l = refl
+  chosen-with_index i (Some t) l = cases (keep t) (λ e. rw e) (λ e. rw e)
 
   pub chosen-gather : (f g : Slot → Option StopEntry) → ((s : Slot) → chosen_of (f s) ≡ g s) → (i : ℕ) (ss : List Slot)
       → chosen (gather f i ss) ≡ gather g i ss

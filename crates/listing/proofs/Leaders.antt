@@ -5,7 +5,6 @@ use mathlib.Core.Path.{◌≡◌, refl, sym, ◌∙◌}
 use mathlib.Core.Logic.{◌≢◌}
 use mathlib.Core.Bool.{Bool, true, false, not, false≢true}
 use mathlib.Core.List.{List, [], ◌∷◌, ◌++◌}
-use mathlib.Core.Option.{Option, none}
 use borrow.Author.Tests.{not-true, not-false, ne_eqb}
 use borrow.Table.Steps.{cases}
 use lib.Dec.{ltb}
@@ -18,21 +17,21 @@ use Rattle.stop_terms.specs.declared.StopTerms.{StopTerms}
 use Rattle.book.proofs.Lists.{all_of}
 use Rattle.book.specs.Lists.{All}
 use Rattle.book.proofs.SortedParts.{Part, early, late, never, Apart, AllStops, parted, Met, Unmet, stops-apart}
-use Rattle.book.specs.Book.{Slot, vacant, held, chain_side, side_of, stop_of, watermark_of, seq_of, lexicographic, before}
-use Rattle.book.specs.Book.{Pending, gather, sort, of_side, pending_on, chain, indices}
+use Rattle.book.specs.Book.{Slot, vacant, held, chain_side, side_of, stop_of, watermark_of, seq_of, lexicographic, before, Pending, gather, sort, of_side, pending_on, chain, indices}
 use Rattle.book.specs.Evaluation.{leaving_on}
 use Rattle.book.specs.Words.{entry_at}
 use Rattle.book.specs.declared.Chain.{Chain}
 use Rattle.book.specs.declared.Chain.TheVariants.{ByStop, ByWatermark}
 use Rattle.book.specs.declared.StopEntry.{StopEntry}
 use Rattle.listing.proofs.Along.{along}
+use Rattle.std.specs.Prelude.{None, Option}
 
 ------------------------------------------------------------------------
 -- The stops of a side, parted by a test
 
 -- the stop of a record, if it is of the side and passes
 unfoldable pub leading : (StopEntry → Bool) → Side → Slot → Option StopEntry
-leading test d vacant = none
+leading test d vacant = None
 leading test d (held t) = leaving_on (test t) d t
 
 -- the stops of a side that pass, and those that do not
@@ -43,7 +42,7 @@ abbrev pub Fails : (StopEntry → Bool) → Side → StopEntry → Type 0
 Fails test d t = (side_of t ≡ d) × (test t ≡ false)
 
 part_passes : (P Q : StopEntry → Type 0) (d s : Side) (t : StopEntry) → (s ≡ d → P t)
-    → Part P Q (of_side d s t) none (of_side d s t)
+    → Part P Q (of_side d s t) None (of_side d s t)
 unfolding of_side
 part_passes P Q Sell Sell t h = early t (h refl)
 part_passes P Q Sell Buy t h = never
@@ -51,7 +50,7 @@ part_passes P Q Buy Sell t h = never
 part_passes P Q Buy Buy t h = early t (h refl)
 
 part_fails : (P Q : StopEntry → Type 0) (d s : Side) (t : StopEntry) → (s ≡ d → Q t)
-    → Part P Q none (of_side d s t) (of_side d s t)
+    → Part P Q None (of_side d s t) (of_side d s t)
 unfolding of_side
 part_fails P Q Sell Sell t h = late t (h refl)
 part_fails P Q Sell Buy t h = never

@@ -5,7 +5,6 @@ use mathlib.Core.Path.{◌≡◌, refl, sym, ◌∙◌}
 use mathlib.Core.Logic.{◌⊎◌, inl, inr}
 use mathlib.Core.Bool.{Bool, false, not, cond}
 use mathlib.Core.List.{List, [], ◌∷◌, map}
-use mathlib.Core.Option.{Option, none, some}
 use borrow.Author.Tests.{eq-eqb}
 use borrow.Table.Steps.{cases}
 use lib.Dec.{eqb}
@@ -25,6 +24,7 @@ use Rattle.listing.proofs.Choices.{chosen, chosen_of, chosen-gather, chosen-sort
 use Rattle.listing.proofs.Leaders.{leading, given, watermark_behind, elected_stop}
 use Rattle.book.specs.Entries.{moved_words}
 use Rattle.listing.specs.ChainEntries.{fill_words, moves_of, fill_of, fills_of}
+use Rattle.std.specs.Prelude.{None, Option, Some}
 
 ------------------------------------------------------------------------
 -- Moves
@@ -41,7 +41,7 @@ given-moves price (p ∷ l) = cases (eqb (stop_of (trailed price p.entry)) (stop
     (λ e. rw (e, given-moves price l))
     (λ e. rw (e, given-moves price l))
 
-side_or_none : (d s : Side) (t : StopEntry) → (s ≡ d) ⊎ (of_side d s t ≡ none)
+side_or_none : (d s : Side) (t : StopEntry) → (s ≡ d) ⊎ (of_side d s t ≡ None)
 unfolding of_side
 side_or_none Sell Sell t = inl refl
 side_or_none Sell Buy t = inr refl
@@ -49,7 +49,7 @@ side_or_none Buy Sell t = inr refl
 side_or_none Buy Buy t = inl refl
 
 chosen_side : (keep : StopEntry → Bool) (d s : Side) (t : StopEntry)
-    → chosen_of keep (of_side d s t) ≡ cond (keep t) (of_side d s t) none
+    → chosen_of keep (of_side d s t) ≡ cond (keep t) (of_side d s t) None
 unfolding chosen_of of_side
 chosen_side keep Sell Sell t = refl
 chosen_side keep Sell Buy t = cases (keep t) (λ e. rw e) (λ e. rw e)
@@ -58,7 +58,7 @@ chosen_side keep Buy Buy t = refl
 
 module _ (price : Price) (d : Side) where
   -- where the watermark is not behind the price, the stop does not change
-  still-mover : (t : StopEntry) → watermark_behind d price t ≡ false → mover price d (held t) ≡ none
+  still-mover : (t : StopEntry) → watermark_behind d price t ≡ false → mover price d (held t) ≡ None
   unfolding mover changed_on
   still-mover t e = elim (side_or_none d (side_of t) t) [
     | inl q ↦ rw (trailed_still price t (rw q e), eq-eqb (stop_of t) (stop_of t) refl)
@@ -77,14 +77,14 @@ module _ (price : Price) (d : Side) where
 -- The stops that are gathered are of words
 
 abbrev OptionFits : Option StopEntry → Type 0
-OptionFits none = Unit {0}
-OptionFits (some t) = StopFits t
+OptionFits None = Unit {0}
+OptionFits (Some t) = StopFits t
 
 with_index_fits : (i : ℕ) (o : Option StopEntry) (l : List Pending) → OptionFits o → AllStops StopFits l
     → AllStops StopFits (with_index i o l)
 unfolding with_index
-with_index_fits i none l f h = h
-with_index_fits i (some t) l f h = (f, h)
+with_index_fits i None l f h = h
+with_index_fits i (Some t) l f h = (f, h)
 
 side_fits : (d s : Side) (t : StopEntry) → StopFits t → OptionFits (of_side d s t)
 unfolding of_side

@@ -3,7 +3,7 @@
 #![tactic(auto)]
 
 ghost use Rattle.std.specs.Prelude.{List, map, ◌≡◌, ℕ, length};
-ghost use Rattle.book.specs.Answers.{told_list};
+ghost use Rattle.error.specs.Answer.{told_answer};
 ghost use Rattle.book.specs.Book.{Book, indices};
 ghost use Rattle.book.specs.Calls.{written};
 ghost use Rattle.book.specs.Entries.{stop_words};
@@ -12,9 +12,9 @@ ghost use Rattle.book.specs.declared.Selector.{Selector};
 ghost use Rattle.by_sequence.specs.Begins.{Begins};
 ghost use Rattle.pending_stops.specs.Stored.{Stored};
 
-use book::{ListAnswer, MOST_RECORDS, Selector, StopWords};
+use book::{MOST_RECORDS, Selector, StopWords};
 use collect::{ask_collect, list_selected};
-use error::Verdict;
+use error::Refusal;
 use pending_stops::vacate;
 use stored_stops::terms_at;
 
@@ -27,34 +27,31 @@ fn cancel_each(s: &mut [u64], n: u64, order: &[u64], m: usize)
         → Begins order.now m (indices (selected selector b.slots))
         → Stored n s.new (vacated_each (selected selector b.slots) b) r }
 {
-    let mut i: usize = 0;
-    while i < m {
+    for i in 0..m {
         let x = order[i];
         let terms = terms_at(&s[..], n, x);
         let side = terms.side;
         vacate(s, n, x, side);
-        i += 1;
     }
 }
 
 // Lists the pending stops that a selector takes, by rising sequence, from the start of the list, and takes them out of
 // the store in that order; later entries stay. Refused: the store is not well formed (1); the list is shorter than the
 // pending count (14).
-pub fn mass_cancel(s: &mut [u64], selector: Selector, list: &mut [StopWords]) -> ListAnswer
+pub fn mass_cancel(
+    s: &mut [u64],
+    selector: Selector,
+    list: &mut [StopWords],
+) -> Result<u64, Refusal>
     ensures { let o = mass_cancel selector s.old (length list.old) in
-        (told_list result ≡ o.answer)
+        (told_answer result ≡ o.answer)
         × (s.new ≡ o.words)
         × (list.new ≡ written (map stop_words o.listed) list.old) }
 {
-    let verdict = ask_collect(&s[..], list.len());
-    match verdict {
-        Verdict::Refused(e) => ListAnswer::Err(e),
-        Verdict::Accepted => {
-            let mut order = [0u64; MOST_RECORDS];
-            let n = s[0];
-            let m = list_selected(&s[..], n, selector, &mut order[..], list);
-            cancel_each(s, n, &order[..], m);
-            ListAnswer::Ok(m as u64)
-        }
-    }
+    ask_collect(&s[..], list.len())?;
+    let mut order = [0u64; MOST_RECORDS];
+    let n = s[0];
+    let m = list_selected(&s[..], n, selector, &mut order[..], list);
+    cancel_each(s, n, &order[..], m);
+    Ok(m as u64)
 }

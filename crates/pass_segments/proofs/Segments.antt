@@ -49,10 +49,10 @@ Completes settings n v k j from to =
     → j ≡ sets k from (map (λ f. elected_words (elected_entry settings b f)) fs)
 
 -- the entries of a list execute
-abbrev pub Executes : List (List ℕ) → ℕ → ℕ → List ℕ → List (List ℕ) → ℕ → List (List ℕ) → ℕ → ℕ → Type 0
-Executes list from to script words tail words' used tail' =
+abbrev pub Executes : List (List ℕ) → ℕ → ℕ → List ℕ → List PrintSegment → ℕ → List PrintSegment → ℕ → ℕ → Type 0
+Executes list from to script queue tail queue' used tail' =
     (es : List Elected) → Flags list from es → to ≡ from + length es
-    → (used ≡ (executed script es).used) × Enqueued (executed script es).segments words tail words' tail'
+    → (used ≡ (executed script es).used) × Enqueued (executed script es).segments queue tail queue' tail'
 
 module _ (settings : Settings) (prints : PrintSegment) {n : ℕ} {w v : List ℕ} (l k : List (List ℕ)) (at moves end : ℕ)
     (does : Does (segment settings.kill prints) n w v l k at moves end) {b : Book} {r : List ℕ}
@@ -80,15 +80,15 @@ module _ (settings : Settings) (prints : PrintSegment) {n : ℕ} {w v : List ℕ
     entries_flags h = rw entries_listed
         (flags-written elected_words last_word l at (entries_in settings prints b) (omega (arith, h, entries_end)))
 
--- the words w become v, the list l, from a place on, k, and the queue's words words', as the segment does it in a pass;
+-- the words w become v, the list l, from a place on, k, and the queue's list queue', as the segment does it in a pass;
 -- answered are the moves, where the list goes on, the script entries used and the tail
 abbrev pub SegmentPasses : Settings → PrintSegment → List ℕ → ℕ → List ℕ → List ℕ → List (List ℕ) → List (List ℕ) → ℕ
-    → List (List ℕ) → ℕ → List (List ℕ) → ℕ → ℕ → ℕ → ℕ → Type 0
-SegmentPasses settings prints script n w v l k at words tail words' moves end used tail' =
+    → List PrintSegment → ℕ → List PrintSegment → ℕ → ℕ → ℕ → ℕ → Type 0
+SegmentPasses settings prints script n w v l k at queue tail queue' moves end used tail' =
     (b : Book) (r : List ℕ) → Stored n w b r
     → (moves ≡ length (evaluated_in settings prints b).moved) × (end ≡ at + length (entries_in settings prints b))
     × (used ≡ (executed_in settings script prints b).used)
-    × Enqueued (executed_in settings script prints b).segments words tail words' tail'
+    × Enqueued (executed_in settings script prints b).segments queue tail queue' tail'
     × (k ≡ sets l at (map elected_words (entries_in settings prints b)))
     × Stored n v (evaluated_in settings prints b).book r
 
@@ -96,10 +96,10 @@ pub segment-passed : (settings : Settings) (prints : PrintSegment) {n : ℕ} {w 
     (at moves end : ℕ)
     → Does (segment settings.kill prints) n w v l k at moves end → (j : List (List ℕ))
     → Completes settings n v k j at end → end ≤ length l
-    → (script : List ℕ) (words : List (List ℕ)) (tail : ℕ) (words' : List (List ℕ)) (used tail' : ℕ)
-    → Executes j at end script words tail words' used tail'
-    → SegmentPasses settings prints script n w v l j at words tail words' moves end used tail'
-segment-passed settings prints l k at moves end does j completes h script words tail words' used tail' executes b r st =
+    → (script : List ℕ) (queue : List PrintSegment) (tail : ℕ) (queue' : List PrintSegment) (used tail' : ℕ)
+    → Executes j at end script queue tail queue' used tail'
+    → SegmentPasses settings prints script n w v l j at queue tail queue' moves end used tail'
+segment-passed settings prints l k at moves end does j completes h script queue tail queue' used tail' executes b r st =
     let ends = entries_end settings prints l k at moves end does st in
     let (uses, adds) = executes (entries_in settings prints b)
     (entries_flags settings prints l k at moves end does st j completes h) ends in (

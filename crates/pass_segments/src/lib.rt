@@ -33,7 +33,7 @@ pub fn pass_segment(
     settings: Settings,
     prints: PrintSegment,
     script: &[u64],
-    queue: &mut [[u64; 4]],
+    queue: &mut [PrintSegment],
     tail: usize,
     list: &mut [ElectedWords],
     at: usize,

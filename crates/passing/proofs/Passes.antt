@@ -22,14 +22,12 @@ use Rattle.pending_stops.proofs.Found.{count_word}
 use Rattle.pending_stops.proofs.Contents.{stored_holds}
 use Rattle.pending_stops.specs.Stored.{Stored}
 use Rattle.points.proofs.Steps.{stored_few, run_on}
-use Rattle.print_path.specs.Segments.{told_next}
-use Rattle.print_path.specs.declared.NextSegment.{NextSegment}
-use Rattle.print_path.specs.declared.NextSegment.TheVariants as next
 use Rattle.script.proofs.Executions.{executed-within}
 use Rattle.script.proofs.ScriptForm.{formed_drop, script_part}
 use Rattle.script.proofs.Queue.{queued_sets, queued_next, queued_more, first_of_none, first_of_some, enqueued_length}
-use Rattle.script.specs.Queue.{segment_words, Queued, first_of}
+use Rattle.script.specs.Queue.{Queued, first_of}
 use Rattle.pass_segments.proofs.Segments.{entries_in, entries_count, SegmentPasses}
+use Rattle.std.specs.Prelude.{None, Option, Some}
 
 ------------------------------------------------------------------------
 -- The pass over a queue
@@ -94,38 +92,38 @@ before_then es fs m k u v o =
 
 -- of the pass over the queue q from the book b, the entries es are elected, and the pass over the queue p from the book
 -- c, on the script behind the used entries, is to come
-pub record Underway (settings : Settings) (script : List ℕ) (n : ℕ) (v : List ℕ) (l k words : List (List ℕ))
+pub record Underway (settings : Settings) (script : List ℕ) (n : ℕ) (v : List ℕ) (l k : List (List ℕ)) (queue : List PrintSegment)
     (head tail moves at used : ℕ)
     (b : Book) (r : List ℕ) (q : List PrintSegment) (c : Book) (p : List PrintSegment)
     (es : List Elected) : Type 0 where
   pub stored : Stored n v c r
-  pub queued : Queued words head tail p
+  pub queued : Queued queue head tail p
   pub ends : at ≡ 0 + length es
   pub listed : k ≡ sets l 0 (map elected_words es)
   pub within : script_entry_length * used ≤ length script
   pub rest : queue_pass settings script q b ≡ before es moves used
       (queue_pass settings (drop (script_entry_length * used) script) p c)
-  pub room : tail + pending_count c.slots ≤ length words
+  pub room : tail + pending_count c.slots ≤ length queue
   pub count : at + pending_count c.slots ≡ pending_count b.slots
 
 -- the loop: so it is from every book and queue that the words at its start stand for, and there are such a book and
 -- queue, with room for its stops in the list
-pub record Passes (settings : Settings) (script : List ℕ) (n : ℕ) (w : List ℕ) (l start : List (List ℕ))
+pub record Passes (settings : Settings) (script : List ℕ) (n : ℕ) (w : List ℕ) (l : List (List ℕ)) (start : List PrintSegment)
     (first last : ℕ)
-    (v : List ℕ) (k words : List (List ℕ)) (head tail moves at used : ℕ) : Type 0 where
+    (v : List ℕ) (k : List (List ℕ)) (queue : List PrintSegment) (head tail moves at used : ℕ) : Type 0 where
   pub formed : script_formed script ≡ true
   pub some : (b : Book) × (r : List ℕ) × (prints : PrintSegment) × Stored n w b r
       × Queued start first last (prints ∷ []) × (pending_count b.slots ≤ length l)
   pub words_length_same : length v ≡ length w
   pub list_length_same : length k ≡ length l
-  pub same_queue : length words ≡ length start
+  pub same_queue : length queue ≡ length start
   pub goes : (b : Book) (r : List ℕ) (q : List PrintSegment) → Stored n w b r → Queued start first last q
       → (c : Book) × (p : List PrintSegment) × (es : List Elected)
-      × Underway settings script n v l k words head tail moves at used b r q c p es
+      × Underway settings script n v l k queue head tail moves at used b r q c p es
 
 -- the next segment of the queue is told
-abbrev pub Tells : NextSegment → List (List ℕ) → ℕ → ℕ → Type 0
-Tells told words head tail = (q : List PrintSegment) → Queued words head tail q → told_next told ≡ first_of q
+abbrev pub Tells : Option PrintSegment → List PrintSegment → ℕ → ℕ → Type 0
+Tells told queue head tail = (q : List PrintSegment) → Queued queue head tail q → told ≡ first_of q
 
 -- the part of the script that is lent to a segment
 abbrev pub lent : List ℕ → ℕ → List ℕ
@@ -134,10 +132,9 @@ lent script used = take (length script - script_entry_length * used) (drop (scri
 ------------------------------------------------------------------------
 -- One turn, from one book and queue
 
-module _ {settings : Settings} {script : List ℕ} {n : ℕ} {v : List ℕ} {l k words : List
-    (List ℕ)} {head tail moves at used : ℕ} {b : Book} {r : List ℕ}
+module _ {settings : Settings} {script : List ℕ} {n : ℕ} {v : List ℕ} {l k : List (List ℕ)} {queue : List PrintSegment} {head tail moves at used : ℕ} {b : Book} {r : List ℕ}
     {q : List PrintSegment} {c : Book} {p : List PrintSegment} {es : List Elected}
-    (u : Underway settings script n v l k words head tail moves at used b r q c p es) where
+    (u : Underway settings script n v l k queue head tail moves at used b r q c p es) where
   moves_few : {w : List ℕ} → Stored n w b r → moves ≤ (length q + pending_count b.slots) * (2 * most_records)
   moves_few st =
       omega (
@@ -147,11 +144,10 @@ module _ {settings : Settings} {script : List ℕ} {n : ℕ} {v : List ℕ} {l k
       )
 
   -- nothing is to come: the queue is empty, or the store
-  rest_none : (told : NextSegment) → told ≡ next.None → Tells told words head tail
+  rest_none : (told : Option PrintSegment) → told ≡ None → Tells told queue head tail
       → queue_pass settings (drop (script_entry_length * used) script) p c ≡ ended c
-  unfolding told_next
   rest_none told e tells =
-      let z : p ≡ [] = first_of_none p (sym (tells p u.queued) ∙ ap told_next e) in
+      let z : p ≡ [] = first_of_none p (sym (tells p u.queued) ∙ e) in
       rw z (pass_from_done settings _ (drop (script_entry_length * used) script) c)
 
   rest_empty : get_or v 1 0 ≡ 0 → queue_pass settings (drop (script_entry_length * used) script) p c ≡ ended c
@@ -172,20 +168,19 @@ module _ {settings : Settings} {script : List ℕ} {n : ℕ} {v : List ℕ} {l k
         u.stored,
       )
 
-  module _ {told : NextSegment} {prints : PrintSegment} (is : told ≡ next.Next prints)
-      (tells : Tells told words head tail) where
+  module _ {told : Option PrintSegment} {prints : PrintSegment} (is : told ≡ Some prints)
+      (tells : Tells told queue head tail) where
     first_told : (rest : List PrintSegment) × (p ≡ prints ∷ rest)
-    unfolding told_next
-    first_told = first_of_some p prints (sym (tells p u.queued) ∙ ap told_next is)
+    first_told = first_of_some p prints (sym (tells p u.queued) ∙ is)
 
-    head_inside : head < length words
+    head_inside : head < length queue
     head_inside = let (rest, e) = first_told in omega (arith, ap length e, u.queued.ends, u.queued.room)
 
-    module _ {x : List ℕ} {j words' : List (List ℕ)} {m end uses tail' : ℕ} (many : get_or v 1 0 ≢ 0)
+    module _ {x : List ℕ} {j : List (List ℕ)} {queue' : List PrintSegment} {m end uses tail' : ℕ} (many : get_or v 1 0 ≢ 0)
         (f : script_formed script ≡ true)
-        (does : SegmentPasses settings prints (lent script used) n v x k j at words tail words' m end uses tail') where
+        (does : SegmentPasses settings prints (lent script used) n v x k j at queue tail queue' m end uses tail') where
       underway_next : (d : Book) × (t : List PrintSegment) × (fs : List Elected)
-          × Underway settings script n x l j words' (head + 1) tail' (moves + m) end (used + uses) b r q d t fs
+          × Underway settings script n x l j queue' (head + 1) tail' (moves + m) end (used + uses) b r q d t fs
       underway_next =
           let here = drop (script_entry_length * used) script in
           let fs = entries_in settings prints c in
@@ -231,22 +226,20 @@ module _ {settings : Settings} {script : List ℕ} {n : ℕ} {v : List ℕ} {l k
 ------------------------------------------------------------------------
 -- The loop
 
--- the entries of the queue but the first, at the start
-abbrev pub vacant : List (List ℕ)
-vacant = replicate most_records (0 ∷ 0 ∷ 0 ∷ 0 ∷ [])
+-- the places of the queue but the first, at the start
+abbrev pub others_at_start : PrintSegment → List PrintSegment
+others_at_start prints = replicate most_records prints
 
-queued_start : (prints : PrintSegment) (first : List ℕ) (others : List (List ℕ)) → first ≡ segment_words prints
-    → Queued (first ∷ others) 0 1 (prints ∷ [])
-queued_start prints first others e = rw e (queued_sets (first ∷ others) 0 (prints ∷ []) (omega arith))
+queued_start : (prints : PrintSegment) (others : List PrintSegment) → Queued (prints ∷ others) 0 1 (prints ∷ [])
+queued_start prints others = queued_sets (prints ∷ others) 0 (prints ∷ []) (omega arith)
 
 module _ {settings : Settings} {script : List ℕ} {n : ℕ} {w : List ℕ} {l : List (List ℕ)} where
-  pub passes_first : (prints : PrintSegment) (first : List ℕ) (others : List (List ℕ)) → first ≡ segment_words prints
-      → most_records ≤ length others
+  pub passes_first : (prints : PrintSegment) (others : List PrintSegment) → most_records ≤ length others
       → script_formed script ≡ true → {b : Book} {r : List ℕ} → Stored n w b r → pending_count b.slots ≤ length l
-      → Passes settings script n w l (first ∷ others) 0 1 w l (first ∷ others) 0 1 0 0 0
-  passes_first prints first others e many f {b} {r} st long = record {
+      → Passes settings script n w l (prints ∷ others) 0 1 w l (prints ∷ others) 0 1 0 0 0
+  passes_first prints others many f {b} {r} st long = record {
     formed = f;
-    some = (b, r, prints, st, queued_start prints first others e, long);
+    some = (b, r, prints, st, queued_start prints others, long);
     words_length_same = refl;
     list_length_same = refl;
     same_queue = refl;
@@ -267,12 +260,12 @@ module _ {settings : Settings} {script : List ℕ} {n : ℕ} {w : List ℕ} {l :
     );
   }
 
-module _ {settings : Settings} {script : List ℕ} {n : ℕ} {w : List ℕ} {l start : List
-    (List ℕ)} {first last : ℕ} {v : List ℕ} {k words : List (List ℕ)}
+module _ {settings : Settings} {script : List ℕ} {n : ℕ} {w : List ℕ} {l : List (List ℕ)}
+    {start : List PrintSegment} {first last : ℕ} {v : List ℕ} {k : List (List ℕ)} {queue : List PrintSegment}
     {head tail moves at used : ℕ}
-    (h : Passes settings script n w l start first last v k words head tail moves at used) where
+    (h : Passes settings script n w l start first last v k queue head tail moves at used) where
   -- what a turn asks
-  pub passes_queued : (p : List PrintSegment) × Queued words head tail p
+  pub passes_queued : (p : List PrintSegment) × Queued queue head tail p
   passes_queued = let (b, r, prints, st, queued, long) = h.some in let (c, p, es, u) =
       h.goes b r _ st queued in (p, u.queued)
 
@@ -287,7 +280,7 @@ module _ {settings : Settings} {script : List ℕ} {n : ℕ} {w : List ℕ} {l s
       h.goes b r _ st queued in u.within
 
   pub segment_asks : (script_formed (lent script used) ≡ true)
-      × ((c : Book) × (r : List ℕ) × Stored n v c r × (tail + pending_count c.slots ≤ length words)
+      × ((c : Book) × (r : List ℕ) × Stored n v c r × (tail + pending_count c.slots ≤ length queue)
       × (at + pending_count c.slots ≤ length k))
   segment_asks =
       let (b, r, prints, st, queued, long) = h.some in
@@ -302,8 +295,8 @@ module _ {settings : Settings} {script : List ℕ} {n : ℕ} {w : List ℕ} {l s
       let (c, p, es, u) = h.goes b r _ st queued in
       omega (arith, moves_few u st, stored_few st)
 
-  module _ {told : NextSegment} {prints : PrintSegment} (is : told ≡ next.Next prints)
-      (tells : Tells told words head tail) where
+  module _ {told : Option PrintSegment} {prints : PrintSegment} (is : told ≡ Some prints)
+      (tells : Tells told queue head tail) where
     pub head_few : head < length start
     head_few =
         let (b, r, prints, st, queued, long) = h.some in
@@ -311,10 +304,10 @@ module _ {settings : Settings} {script : List ℕ} {n : ℕ} {w : List ℕ} {l s
         omega (arith, head_inside u is tells, h.same_queue)
 
     -- one segment more
-    pub passes_next : {x : List ℕ} {j words' : List (List ℕ)} {m end uses tail' : ℕ} → get_or v 1 0 ≢ 0
-        → SegmentPasses settings prints (lent script used) n v x k j at words tail words' m end uses tail'
-        → length x ≡ length v → length j ≡ length k → length words' ≡ length words
-        → Passes settings script n w l start first last x j words' (head + 1) tail' (moves + m) end (used + uses)
+    pub passes_next : {x : List ℕ} {j : List (List ℕ)} {queue' : List PrintSegment} {m end uses tail' : ℕ} → get_or v 1 0 ≢ 0
+        → SegmentPasses settings prints (lent script used) n v x k j at queue tail queue' m end uses tail'
+        → length x ≡ length v → length j ≡ length k → length queue' ≡ length queue
+        → Passes settings script n w l start first last x j queue' (head + 1) tail' (moves + m) end (used + uses)
     passes_next many does words_length_same list_length_same same_queue = record {
       formed = h.formed;
       some = h.some;
@@ -327,11 +320,10 @@ module _ {settings : Settings} {script : List ℕ} {n : ℕ} {w : List ℕ} {l s
 
 -- the loop ends: the pass over the queue is the pass
 module _ {settings : Settings} {script : List ℕ} {n : ℕ} {w : List ℕ} {l : List (List ℕ)} (prints : PrintSegment)
-    (first : List ℕ) (others : List (List ℕ))
-    (e : first ≡ segment_words prints) {v : List ℕ} {k words : List (List ℕ)} {head tail moves at used : ℕ}
-    (h : Passes settings script n w l (first ∷ others) 0 1 v k words head tail moves at used) where
+    (others : List PrintSegment) {v : List ℕ} {k : List (List ℕ)} {queue : List PrintSegment} {head tail moves at used : ℕ}
+    (h : Passes settings script n w l (prints ∷ others) 0 1 v k queue head tail moves at used) where
   passes_last : ((b : Book) (r : List ℕ) (c : Book) (p : List PrintSegment) (es : List Elected)
-      → Underway settings script n v l k words head tail moves at used b r (prints ∷ []) c p es
+      → Underway settings script n v l k queue head tail moves at used b r (prints ∷ []) c p es
       → queue_pass settings (drop (script_entry_length * used) script) p c ≡ ended c)
       → (b : Book) (r : List ℕ) → Stored n w b r
       → (moves ≡ (pass settings script prints b).moves) × (at ≡ length (pass settings script prints b).entries)
@@ -339,11 +331,11 @@ module _ {settings : Settings} {script : List ℕ} {n : ℕ} {w : List ℕ} {l :
       × (k ≡ sets l 0 (map elected_words (pass settings script prints b).entries))
       × Stored n v (pass settings script prints b).book r
   passes_last none b r st =
-      let (c, p, es, u) = h.goes b r (prints ∷ []) st (queued_start prints first others e) in
+      let (c, p, es, u) = h.goes b r (prints ∷ []) st (queued_start prints others) in
       rw (queue_pass_all settings script prints b) at (underway_last u (none b r c p es u))
 
   -- the queue is empty
-  pub passes_none : {told : NextSegment} → told ≡ next.None → Tells told words head tail → (b : Book) (r : List ℕ)
+  pub passes_none : {told : Option PrintSegment} → told ≡ None → Tells told queue head tail → (b : Book) (r : List ℕ)
       → Stored n w b r
       → (moves ≡ (pass settings script prints b).moves) × (at ≡ length (pass settings script prints b).entries)
       × (used ≡ (pass settings script prints b).used)

@@ -12,8 +12,7 @@ ghost use Rattle.pending_stops.specs.Stored.{Stored};
 
 use book::{ElectedWords, MOST_RECORDS, PrintSegment, Settings};
 use pass_segments::pass_segment;
-use print_path::NextSegment;
-use segment_queue::{segment_at, segment_words};
+use segment_queue::segment_at;
 
 // What a pass did: how many times a stop price became another, where the list of the elected goes on, and the script
 // entries used.
@@ -43,15 +42,14 @@ pub fn pass(
         × (list.new ≡ sets list.old 0 (map elected_words (pass settings script.now prints b).entries))
         × Stored n s.new (pass settings script.now prints b).book r }
 {
-    let mut queue = [[0u64; 4]; MOST_RECORDS + 1];
-    queue[0] = segment_words(prints);
+    let mut queue = [prints; MOST_RECORDS + 1];
     let mut head: usize = 0;
     let mut tail: usize = 1;
     let mut moves: u64 = 0;
     let mut at: usize = 0;
     let mut used: usize = 0;
     loop {
-        let NextSegment::Next(next) = segment_at(&queue[..], head, tail) else {
+        let Some(next) = segment_at(&queue[..], head, tail) else {
             break;
         };
         if s[1] == 0 {

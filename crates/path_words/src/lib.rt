@@ -4,29 +4,27 @@
 
 ghost use Rattle.std.specs.Prelude.{◌≡◌};
 ghost use Rattle.host_words.specs.Arguments.{last_price_from, last_price_of, prints_of, path_known, path_of};
-ghost use Rattle.print_path.specs.Segments.{told_next};
 ghost use Rattle.host_words.specs.Answers.{flag, path_words, segment_words};
 
-use book::{LastPrice, PrintPath, PrintSegment};
+use book::{PrintPath, PrintSegment};
 use pricelevel::Price;
-use print_path::NextSegment;
 
 // ---------------------------------------------------------------------
 // Prices and the print path
 
 // A price that may be absent.
-fn last_price_from(present: u64, price: u64) -> LastPrice
+fn last_price_from(present: u64, price: u64) -> Option<Price>
     ensures { result ≡ last_price_from present price }
 {
     let absent = present == 0;
     if absent {
-        return LastPrice::None;
+        return None;
     }
-    LastPrice::At(Price(price))
+    Some(Price(price))
 }
 
 // Present, price.
-pub fn last_price_of(w: &[u64; 2]) -> LastPrice
+pub fn last_price_of(w: &[u64; 2]) -> Option<Price>
     ensures { result ≡ last_price_of w.now }
 {
     last_price_from(w[0], w[1])
@@ -85,16 +83,16 @@ pub fn path_words(path: PrintPath) -> [u64; 4]
     ]
 }
 
-pub fn segment_words(next: NextSegment) -> [u64; 5]
-    ensures { result ≡ segment_words (told_next next) }
+pub fn segment_words(next: Option<PrintSegment>) -> [u64; 5]
+    ensures { result ≡ segment_words next }
 {
     match next {
-        NextSegment::None => [0, 0, 0, 0, 0],
-        NextSegment::Next(prints) => {
+        None => [0, 0, 0, 0, 0],
+        Some(prints) => {
             let prev = prints.prev;
             match prev {
-                LastPrice::None => [1, 0, 0, prints.first.0, prints.last.0],
-                LastPrice::At(at) => [1, 1, at.0, prints.first.0, prints.last.0],
+                None => [1, 0, 0, prints.first.0, prints.last.0],
+                Some(at) => [1, 1, at.0, prints.first.0, prints.last.0],
             }
         }
     }

@@ -6,7 +6,6 @@ use native.Mathlib.Nat.{add-zero, add-suc, suc-add}
 use mathlib.Core.Path.{◌≡◌, sym, ap, ◌∙◌}
 use mathlib.Core.Logic.{◌≢◌}
 use mathlib.Core.List.{List, [], ◌∷◌}
-use mathlib.Core.Option.{Option, none, some}
 use borrow.Table.Steps.{cases}
 use lib.Dec.{T}
 use lib.ListN.{get_or, set, length-set}
@@ -29,6 +28,7 @@ use Rattle.form_check.proofs.Groups.{members_ranks}
 use Rattle.chains.proofs.Ranked.{rank_of_slot, rank_in, chain_members}
 use Rattle.book.proofs.Members.{members, members_held, held_member}
 use Rattle.book.specs.Chains.{Member}
+use Rattle.std.specs.Prelude.{None, Option, Some}
 
 ------------------------------------------------------------------------
 -- The members of a side
@@ -50,16 +50,16 @@ members-vacated side i (s ∷ ss) zero = rw add-zero (go (pending_on side s))
   where
     go : (o : Option StopEntry)
         → members side (suc i) ss ≡ remove i (indices (with_index i o (gather (pending_on side) (suc i) ss)))
-    go none = sym (remove_absent i (members side (suc i) ss) (λ h. omega (arith, members_from side (suc i) ss i h)))
-    go (some t) = sym (remove_here i (members side (suc i) ss))
+    go None = sym (remove_absent i (members side (suc i) ss) (λ h. omega (arith, members_from side (suc i) ss i h)))
+    go (Some t) = sym (remove_here i (members side (suc i) ss))
 members-vacated side i (s ∷ ss) (suc k) =
     go (pending_on side s) (rw (suc-add, ← add-suc) at (members-vacated side (suc i) ss k))
   where
     go : (o : Option StopEntry) → members side (suc i) (set ss k vacant) ≡ remove (i + suc k) (members side (suc i) ss)
         → indices (with_index i o (gather (pending_on side) (suc i) (set ss k vacant))) ≡ remove (i + suc k)
         (indices (with_index i o (gather (pending_on side) (suc i) ss)))
-    go none e = e
-    go (some t) e = rw (remove_there (i + suc k) i (members side (suc i) ss) (omega arith))
+    go None e = e
+    go (Some t) e = rw (remove_there (i + suc k) i (members side (suc i) ss) (omega arith))
         (ap (λ (l : List ℕ). i ∷ l) e)
 
 has_member : (side : Side) (ss : List Slot) (i : ℕ) → T (has i (members side 1 ss)) → Member side ss i

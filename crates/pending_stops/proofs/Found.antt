@@ -5,7 +5,6 @@ use mathlib.Core.Path.{◌≡◌, refl, sym, ◌∙◌}
 use mathlib.Core.Logic.{◌≢◌}
 use mathlib.Core.Bool.{true}
 use mathlib.Core.List.{List}
-use mathlib.Core.Option.{Option, none, some}
 use lib.ListN.{get_or, drop}
 use Rattle.pricelevel.specs.declared.Id.{Id}
 use Rattle.book.proofs.Lookup.{InBook, lookup_found}
@@ -22,6 +21,7 @@ use Rattle.store_words.specs.Search.{index_or0}
 use Rattle.pending_stops.proofs.Contents.{stored_holds}
 use Rattle.pending_stops.proofs.StoredWords.{contents_entry}
 use Rattle.pending_stops.specs.Stored.{Stored}
+use Rattle.std.specs.Prelude.{None, Option, Some}
 
 ------------------------------------------------------------------------
 -- The book of well-formed words
@@ -52,24 +52,24 @@ count_word st = (stored_holds st).contents.word1
 -- record i holds the stop of an identity
 pub record Found (id : Id) (b : Book) (i : ℕ) : Type 0 where
   pub entry : StopEntry
-  pub looked : lookup id b ≡ some (record { index = i; entry = entry })
+  pub looked : lookup id b ≡ Some (record { index = i; entry = entry })
   pub in_book : InBook b.slots (record { index = i; entry = entry })
 
-pub missing : (id : Id) (b : Book) (i : ℕ) → i ≡ index_or0 (lookup id b) → i ≡ 0 → lookup id b ≡ none
+pub missing : (id : Id) (b : Book) (i : ℕ) → i ≡ index_or0 (lookup id b) → i ≡ 0 → lookup id b ≡ None
 unfolding index_or0
 missing id b i e z = go (lookup id b) refl (sym e ∙ z)
   where
-    go : (o : Option Pending) → lookup id b ≡ o → index_or0 o ≡ 0 → lookup id b ≡ none
-    go none q h = q
-    go (some p) q h = absurd (omega (arith, h, (lookup_found id b p q).0.from))
+    go : (o : Option Pending) → lookup id b ≡ o → index_or0 o ≡ 0 → lookup id b ≡ None
+    go None q h = q
+    go (Some p) q h = absurd (omega (arith, h, (lookup_found id b p q).0.from))
 
 pub found : (id : Id) (b : Book) (i : ℕ) → i ≡ index_or0 (lookup id b) → i ≢ 0 → Found id b i
 unfolding index_or0
 found id b i e n = go (lookup id b) refl e
   where
     go : (o : Option Pending) → lookup id b ≡ o → i ≡ index_or0 o → Found id b i
-    go none q h = absurd (n h)
-    go (some p) q h = rw h (record { entry = p.entry; looked = q; in_book = (lookup_found id b p q).0 })
+    go None q h = absurd (n h)
+    go (Some p) q h = rw h (record { entry = p.entry; looked = q; in_book = (lookup_found id b p q).0 })
 
 module _ (w : List ℕ) (e : well_formed w ≡ true) (id : Id) (i : ℕ) (f : Found id (book_of w) i) where
   pub found_record : Record (get_or w 0 0) w i

@@ -45,11 +45,9 @@ fn total_on(s: &[u64], n: u64, side: Side) -> TwoWords
     ensures { result ≡ two_words (total side (slots_at s.now 1 n)) }
 {
     let mut sum = TwoWords { high: 0, low: 0 };
-    let mut i: u64 = 1;
-    while i <= n {
+    for i in 1..n + 1 {
         let quantity = quantity_on(s, n, side, i);
         sum = plus(sum, quantity);
-        i += 1;
     }
     sum
 }

@@ -4,7 +4,6 @@ use Prim.Native.Nat.{ℕ, suc}
 use mathlib.Core.Path.{◌≡◌, refl, sym, ap, ◌∙◌}
 use mathlib.Core.Bool.{Bool, true, false, not, cond}
 use mathlib.Core.List.{List, [], ◌∷◌, ◌++◌, map, map-map}
-use mathlib.Core.Option.{Option, none, some}
 use lib.Dec.{eqb}
 use borrow.Table.Steps.{cases}
 use Rattle.pricelevel.specs.declared.Price.{Price}
@@ -16,10 +15,10 @@ use Rattle.book.proofs.Points.{gather_none, freed_append}
 use Rattle.book.specs.Steps.{is_side, trailed_slot, trailed_on, elect, elected_in, vacated_by, stays, taken_on, other, first_side, trailed_both, elected_both, taken_both}
 use Rattle.book.proofs.Stops.{trailed_keeps}
 use Rattle.book.specs.Book.{Slot, vacant, held, Book, gather, side_of, stop_of, of_side}
-use Rattle.book.specs.Evaluation.{trailed, leaves, vacated_if, settled, leaving_on, leaver, elected_on, elected_by, freed, changed_on, mover}
-use Rattle.book.specs.Evaluation.{moved_on, moved_by, fill_at, point}
+use Rattle.book.specs.Evaluation.{trailed, leaves, vacated_if, settled, leaving_on, leaver, elected_on, elected_by, freed, changed_on, mover, moved_on, moved_by, fill_at, point}
 use Rattle.book.specs.declared.StopEntry.{StopEntry}
 use Rattle.book.specs.Lists.{sort_by}
+use Rattle.std.specs.Prelude.{None, Option, Some}
 
 ------------------------------------------------------------------------
 -- What is taken from changed records
@@ -46,7 +45,7 @@ is_side-other Buy Buy = refl
 is_side_away : (d s : Side) → is_side d s ≡ true → is_side (other d) s ≡ false
 is_side_away d s e = rw (is_side-other d s, e)
 
-of_side-is_side : (d s : Side) (t : StopEntry) → of_side d s t ≡ cond (is_side d s) (some t) none
+of_side-is_side : (d s : Side) (t : StopEntry) → of_side d s t ≡ cond (is_side d s) (Some t) None
 unfolding is_side of_side
 of_side-is_side Sell Sell t = refl
 of_side-is_side Sell Buy t = refl
@@ -63,16 +62,16 @@ trailed_whole price (held t) = held (trailed price t)
 
 -- a step does nothing to a stop of the other side
 module _ (d : Side) (price : Price) (t : StopEntry) (e : is_side d (side_of t) ≡ false) where
-  mover_away : mover price d (held t) ≡ none
+  mover_away : mover price d (held t) ≡ None
   unfolding mover changed_on
   mover_away = cases (eqb (stop_of (trailed price t)) (stop_of t)) (λ f. rw f)
       (λ f. rw (f, of_side-is_side d (side_of t) t, e))
 
-  elect_away : elect d price (held t) ≡ none
+  elect_away : elect d price (held t) ≡ None
   unfolding elect leaving_on
   elect_away = cases (elected_at t.terms price) (λ f. rw (f, of_side-is_side d (side_of t) t, e)) (λ f. rw f)
 
-  elect_left_away : (left : Bool) → elect d price (vacated_if left t) ≡ none
+  elect_left_away : (left : Bool) → elect d price (vacated_if left t) ≡ None
   unfolding elect vacated_if
   elect_left_away true = refl
   elect_left_away false = elect_away
@@ -138,7 +137,7 @@ unfolding trailed_whole settled leaves vacated_if
 killed-settled price vacant = refl
 killed-settled price (held t) = refl
 
-killed-leaver : (price : Price) (d : Side) (s : Slot) → leaver true price d s ≡ none
+killed-leaver : (price : Price) (d : Side) (s : Slot) → leaver true price d s ≡ None
 unfolding leaver leaves leaving_on
 killed-leaver price d vacant = refl
 killed-leaver price d (held t) = refl

@@ -11,25 +11,24 @@ use Rattle.book.proofs.Walks.{walk_from_points, then_none, points_count}
 use Rattle.book.specs.Book.{Book, pending_count}
 use Rattle.book.specs.Evaluation.{Evaluated, point, sells_first, falls_to, and_then, walk_from, last_of, walk}
 use Rattle.book.specs.Sizes.{most_records}
-use Rattle.book.specs.declared.LastPrice.{LastPrice}
-use Rattle.book.specs.declared.LastPrice.TheVariants as last
 use Rattle.listing.specs.ChainEntries.{fill_words}
 use Rattle.pending_stops.specs.Stored.{Stored}
 use Rattle.points.proofs.PointsOnWords.{Does, point_few, does_same, does_then}
 use Rattle.pricelevel.specs.Price.{to_price}
+use Rattle.std.specs.Prelude.{Option, Some}
 
 ------------------------------------------------------------------------
 -- One more price
 
 -- the price that the point after these arrives from
-unfoldable pub arrived : LastPrice → List Price → LastPrice
+unfoldable pub arrived : Option Price → List Price → Option Price
 arrived from [] = from
-arrived from (p ∷ ps) = arrived (last.At p) ps
+arrived from (p ∷ ps) = arrived (Some p) ps
 
-arrived_more : (from : LastPrice) (ps : List Price) (p : Price) → arrived from (ps ++ (p ∷ [])) ≡ last.At p
+arrived_more : (from : Option Price) (ps : List Price) (p : Price) → arrived from (ps ++ (p ∷ [])) ≡ Some p
 unfolding arrived
 arrived_more from [] p = refl
-arrived_more from (q ∷ ps) p = arrived_more (last.At q) ps p
+arrived_more from (q ∷ ps) p = arrived_more (Some q) ps p
 
 then_then : (o p q : Evaluated) → and_then o (and_then p q) ≡ and_then (and_then o p) q
 unfolding and_then
@@ -40,7 +39,7 @@ then_then o p q = λ i. record {
 }
 
 module _ (kill falls : Bool) where
-  pub walk_from_more : (from : LastPrice) (ps : List Price) (p : Price) (b : Book)
+  pub walk_from_more : (from : Option Price) (ps : List Price) (p : Price) (b : Book)
       → and_then (walk_from kill falls from ps b)
       (point kill (sells_first falls (arrived from ps) p) p (walk_from kill falls from ps b).book)
       ≡ walk_from kill falls from (ps ++ (p ∷ [])) b
@@ -48,12 +47,12 @@ module _ (kill falls : Bool) where
   walk_from_more from [] p b = sym (then_none _)
   walk_from_more from (q ∷ ps) p b =
       let o = point kill (sells_first falls from q) q b in
-      let w = walk_from kill falls (last.At q) ps o.book in
-      let latest = point kill (sells_first falls (arrived (last.At q) ps) p) p w.book in
-      sym (then_then o w latest) ∙ ap (and_then o) (walk_from_more (last.At q) ps p o.book)
+      let w = walk_from kill falls (Some q) ps o.book in
+      let latest = point kill (sells_first falls (arrived (Some q) ps) p) p w.book in
+      sym (then_then o w latest) ∙ ap (and_then o) (walk_from_more (Some q) ps p o.book)
 
   -- as many fewer are pending
-  pub walk_from_count : (from : LastPrice) (ps : List Price) (b : Book)
+  pub walk_from_count : (from : Option Price) (ps : List Price) (b : Book)
       → pending_count b.slots ≡ pending_count (walk_from kill falls from ps b).book.slots + length
       (walk_from kill falls from ps b).fills
   walk_from_count from ps b = points_count kill (walk_from_points kill falls from ps b)
@@ -70,7 +69,7 @@ last_of_words x (y ∷ xs) = last_of_words y xs
 abbrev pub words_fall : List ℕ → Bool
 words_fall prices = falls_to (to_price (get_or prices 0 0)) (to_price (get_or prices (length prices - 1) 0))
 
-walk_words : (kill : Bool) (prev : LastPrice) (prices : List ℕ) (b : Book) → 1 ≤ length prices
+walk_words : (kill : Bool) (prev : Option Price) (prices : List ℕ) (b : Book) → 1 ≤ length prices
     → walk_from kill (words_fall prices) prev (map to_price prices) b ≡ walk kill prev (map to_price prices) b
 unfolding walk
 walk_words kill prev [] b h = absurd (omega arith)
@@ -82,8 +81,8 @@ walk_words kill prev (x ∷ xs) b h =
 -- The loop
 
 -- points stand at i of the prices
-pub record Walked (kill falls : Bool) (prev : LastPrice) (prices : List ℕ) (n : ℕ) (w v : List ℕ) (l k : List (List ℕ))
-    (from : LastPrice)
+pub record Walked (kill falls : Bool) (prev : Option Price) (prices : List ℕ) (n : ℕ) (w v : List ℕ) (l k : List (List ℕ))
+    (from : Option Price)
     (moves at i : ℕ) : Type 0 where
   pub few : i ≤ length prices
   pub words : length v ≡ length w
@@ -92,7 +91,7 @@ pub record Walked (kill falls : Bool) (prev : LastPrice) (prices : List ℕ) (n 
   pub few-moves : moves ≤ i * most_records
   pub does : Does (walk_from kill falls prev (map to_price (take i prices))) n w v l k 0 moves at
 
-module _ {kill falls : Bool} {prev : LastPrice} {prices : List ℕ} {n : ℕ} {w : List ℕ} {l : List (List ℕ)} where
+module _ {kill falls : Bool} {prev : Option Price} {prices : List ℕ} {n : ℕ} {w : List ℕ} {l : List (List ℕ)} where
   pub walked_first : Walked kill falls prev prices n w w l l prev 0 0 0
   unfolding walk_from arrived
   walked_first = record {
@@ -104,7 +103,7 @@ module _ {kill falls : Bool} {prev : LastPrice} {prices : List ℕ} {n : ℕ} {w
     does = λ b r st. (refl, omega arith, refl, st);
   }
 
-  module _ {v : List ℕ} {k : List (List ℕ)} {from : LastPrice} {moves at i : ℕ}
+  module _ {v : List ℕ} {k : List (List ℕ)} {from : Option Price} {moves at i : ℕ}
       (h : Walked kill falls prev prices n w v l k from moves at i) where
     -- there is room for what the next point takes out
     pub walked_room : {b : Book} {r : List ℕ} → Stored n w b r → pending_count b.slots ≤ length l
@@ -128,7 +127,7 @@ module _ {kill falls : Bool} {prev : LastPrice} {prices : List ℕ} {n : ℕ} {w
           ∙ map-append to_price (take i prices) (get_or prices i 0 ∷ [])))
 
       pub walked_next : {b : Book} {r : List ℕ} → Stored n w b r → length x ≡ length v → length j ≡ length k
-          → Walked kill falls prev prices n w x l j (last.At (to_price (get_or prices i 0))) (moves + m) end (i + 1)
+          → Walked kill falls prev prices n w x l j (Some (to_price (get_or prices i 0))) (moves + m) end (i + 1)
       walked_next st p q = record {
         few = omega (arith, inside);
         words = p ∙ h.words;
@@ -145,7 +144,7 @@ module _ {kill falls : Bool} {prev : LastPrice} {prices : List ℕ} {n : ℕ} {w
             l k j 0 moves at m end h.does (rw h.arrival at does));
       }
 
-  pub walked_last : {v : List ℕ} {k : List (List ℕ)} {from : LastPrice} {moves at i : ℕ}
+  pub walked_last : {v : List ℕ} {k : List (List ℕ)} {from : Option Price} {moves at i : ℕ}
       → Walked kill falls prev prices n w v l k from moves at i
       → falls ≡ words_fall prices → 1 ≤ length prices → length prices ≤ i → (b : Book) (r : List ℕ) → Stored n w b r
       → (moves ≡ length (walk kill prev (map to_price prices) b).moved)

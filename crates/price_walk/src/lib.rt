@@ -10,7 +10,7 @@ ghost use Rattle.listing.specs.ChainEntries.{fill_words};
 ghost use Rattle.pending_stops.specs.Stored.{Stored};
 ghost use Rattle.pricelevel.specs.Price.{to_price};
 
-use book::{ElectedWords, LastPrice};
+use book::ElectedWords;
 use points::{Points, point};
 use pricelevel::Price;
 use side_order::{falls_to, sells_first};
@@ -23,7 +23,7 @@ pub fn walk_points(
     s: &mut [u64],
     n: u64,
     kill: bool,
-    prev: LastPrice,
+    prev: Option<Price>,
     prices: &[u64],
     list: &mut [ElectedWords],
 ) -> Points
@@ -40,14 +40,12 @@ pub fn walk_points(
     let mut from = prev;
     let mut moves: u64 = 0;
     let mut at: usize = 0;
-    let mut i: usize = 0;
-    while i < count {
+    for i in 0..count {
         let price = Price(prices[i]);
         let p = point(s, n, kill, sells_first(falls, from, price), price, list, at);
         moves += p.moves;
         at = p.at;
-        from = LastPrice::At(price);
-        i += 1;
+        from = Some(price);
     }
     Points {
         moves: moves,

@@ -4,16 +4,15 @@
 
 ghost use Rattle.std.specs.Prelude.{◌≡◌};
 ghost use Rattle.book.specs.Path.{opened, recorded, closed, prev_of, last_or, segment_of, take};
-ghost use Rattle.print_path.specs.Segments.{told_next};
 
-use book::{LastPrice, PrintPath, PrintSegment};
+use book::{PrintPath, PrintSegment};
 use pricelevel::Price;
 
 // A path open at a print, with the price before it.
-fn opened(prev: LastPrice, price: Price) -> PrintPath
+fn opened(prev: Option<Price>, price: Price) -> PrintPath
     ensures { result ≡ opened prev price }
 {
-    let LastPrice::At(from) = prev else {
+    let Some(from) = prev else {
         return PrintPath {
             open: true,
             has_prev: false,
@@ -30,7 +29,7 @@ fn opened(prev: LastPrice, price: Price) -> PrintPath
 }
 
 // The path after a print, given how many stops are pending: a sweep's first print opens it, if there are any.
-pub fn recorded(path: PrintPath, pending: u64, prev: LastPrice, price: Price) -> PrintPath
+pub fn recorded(path: PrintPath, pending: u64, prev: Option<Price>, price: Price) -> PrintPath
     ensures { result ≡ recorded pending prev price path }
 {
     if pending == 0 {
@@ -57,28 +56,28 @@ pub fn closed(path: PrintPath) -> PrintPath
 }
 
 // The price before the first print.
-fn prev_of(path: PrintPath) -> LastPrice
+fn prev_of(path: PrintPath) -> Option<Price>
     ensures { result ≡ prev_of path }
 {
     let prev = path.prev;
     if path.has_prev {
-        return LastPrice::At(prev);
+        return Some(prev);
     }
-    LastPrice::None
+    None
 }
 
 // The last trade, or the first print if there is none.
-fn last_or(first: Price, trade: LastPrice) -> Price
+fn last_or(first: Price, trade: Option<Price>) -> Price
     ensures { result ≡ last_or first trade }
 {
-    let LastPrice::At(price) = trade else {
+    let Some(price) = trade else {
         return first;
     };
     price
 }
 
 // The segment of an open path, up to the last trade.
-pub fn segment_of(path: PrintPath, trade: LastPrice) -> PrintSegment
+pub fn segment_of(path: PrintPath, trade: Option<Price>) -> PrintSegment
     ensures { result ≡ segment_of path trade }
 {
     let first = path.first;
@@ -89,34 +88,27 @@ pub fn segment_of(path: PrintPath, trade: LastPrice) -> PrintSegment
     }
 }
 
-// The segment that is taken from a path, if it was open.
-#[derive(Clone, Copy)]
-pub enum NextSegment {
-    None,
-    Next(PrintSegment),
-}
-
 // What taking the segment of a path answers, and the path after it.
 #[derive(Clone, Copy)]
 pub struct TakenSegment {
-    pub segment: NextSegment,
+    pub segment: Option<PrintSegment>,
     pub path: PrintPath,
 }
 
 // Takes the segment of a path, up to the last trade, and closes it.
-pub fn taken(path: PrintPath, trade: LastPrice) -> TakenSegment
-    ensures segment_value { told_next result.segment ≡ (take path trade).segment }
+pub fn taken(path: PrintPath, trade: Option<Price>) -> TakenSegment
+    ensures segment_value { result.segment ≡ (take path trade).segment }
     ensures path_value { result.path ≡ (take path trade).path }
 {
     let after = closed(path);
     if path.open {
         return TakenSegment {
-            segment: NextSegment::Next(segment_of(path, trade)),
+            segment: Some(segment_of(path, trade)),
             path: after,
         };
     }
     TakenSegment {
-        segment: NextSegment::None,
+        segment: None,
         path: after,
     }
 }

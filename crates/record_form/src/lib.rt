@@ -12,20 +12,14 @@ ghost use Rattle.book.specs.Sizes.{record_length};
 use book::{NEXT_BY_STOP, RECORD_WORDS};
 use pricelevel::on_tick;
 use records::word;
-use stop_terms::{Inconsistency, StopTerms};
+use stop_terms::StopTerms;
 use stored_stops::terms_at;
 
 // Whether a stop's terms have no inconsistency.
 fn is_consistent(terms: StopTerms) -> bool
     ensures { result ≡ consistent terms }
 {
-    let found = terms.inconsistency();
-    match found {
-        Inconsistency::None => true,
-        Inconsistency::ZeroTrail => false,
-        Inconsistency::SellAboveWatermark => false,
-        Inconsistency::BuyBelowWatermark => false,
-    }
+    terms.inconsistency().is_none()
 }
 
 // Whether the stop in record i is sound.
@@ -62,14 +56,10 @@ fn is_blank(s: &[u64], n: u64, i: u64) -> bool
     requires { Record n s.now i }
     ensures { result ≡ blank s.now i }
 {
-    let mut k: usize = 0;
-    let mut left = RECORD_WORDS;
-    while left > 0 {
+    for k in 0..RECORD_WORDS {
         if !is_blank_at(s, n, i, k) {
             return false;
         }
-        k = k + 1;
-        left = left - 1;
     }
     true
 }
@@ -99,14 +89,10 @@ pub fn records_formed(s: &[u64], n: u64) -> bool
     requires { Room n s.now }
     ensures { result ≡ every (record_formed s.now) (rising 1 n) }
 {
-    let mut i: u64 = 1;
-    let mut left = n;
-    while left > 0 {
+    for i in 1..n + 1 {
         if !record_formed(s, n, i) {
             return false;
         }
-        i = i + 1;
-        left = left - 1;
     }
     true
 }

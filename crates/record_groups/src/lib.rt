@@ -35,11 +35,9 @@ pub fn count_sides(s: &[u64], n: u64) -> Sides
     requires { Room n s.now }
     ensures { SidesCounted result s.now n }
 {
-    let mut i: u64 = 1;
-    let mut left = n;
     let mut sells: u64 = 0;
     let mut buys: u64 = 0;
-    while left > 0 {
+    for i in 1..n + 1 {
         let g = group_of(s, n, i);
         if g == 1 {
             sells = sells + 1;
@@ -47,8 +45,6 @@ pub fn count_sides(s: &[u64], n: u64) -> Sides
         if g == 0 {
             buys = buys + 1;
         }
-        i = i + 1;
-        left = left - 1;
     }
     Sides {
         sells: sells,

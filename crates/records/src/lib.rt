@@ -40,11 +40,7 @@ pub fn put_words(s: &mut [u64], at: usize, words: &[u64])
     requires { at + length words.now ≤ length s.old }
     ensures { s.new ≡ sets s.old at words.now }
 {
-    let mut k: usize = 0;
-    while k < words.len() {
-        s[at + k] = words[k];
-        k += 1;
-    }
+    s[at..at + words.len()].copy_from_slice(words);
 }
 
 // Writes the words of record i, its links among them.

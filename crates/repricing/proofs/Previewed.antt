@@ -6,7 +6,6 @@ use mathlib.Core.Path.{◌≡◌, refl, sym, ap, ap₂, ◌∙◌}
 use mathlib.Core.Bool.{true, false}
 use mathlib.Core.List.{List, [], ◌∷◌}
 use mathlib.Core.Logic.{◌⊎◌, inl, inr}
-use mathlib.Core.Option.{Option, none, some}
 use borrow.Table.Steps.{cases}
 use Rattle.pricelevel.specs.declared.Price.{Price}
 use Rattle.stop_terms.specs.Terms.{behind, candidate, tightened, ratcheted, trailed_at}
@@ -16,6 +15,7 @@ use Rattle.repricing.proofs.Preview.{preview_still, preview-beyond, preview_kept
 use Rattle.repricing.specs.Preview.{preview}
 use Rattle.repricing.specs.Previewed.{adjusted, previewed_at, stop_after_each, DrawsRight}
 use Rattle.repricing.specs.declared.Adjustment.{Adjustment}
+use Rattle.std.specs.Prelude.{None, Option, Some}
 
 -- where a price puts the stop of these terms, if it is past their watermark
 abbrev tightened_at : StopTerms → Price → ℕ
@@ -39,8 +39,8 @@ module _ (t : StopTerms) (p : Price) where
   previewed_kept k = go (candidate t.side t.trail p.0) refl
     where
       go : (c : Option ℕ) → candidate t.side t.trail p.0 ≡ c → previewed_at t p ≡ t
-      go none e = ap (adjusted t) (preview-beyond t.side t.stop t.trail t.watermark p e)
-      go (some c) e =
+      go None e = ap (adjusted t) (preview-beyond t.side t.stop t.trail t.watermark p e)
+      go (Some c) e =
           ap (adjusted t) (preview_kept t.side t.stop t.trail t.watermark p c e
           (sym (tightened-behind-candidate t.side t.stop.0 c) ∙ rw e at k))
 
@@ -52,8 +52,8 @@ module _ (t : StopTerms) (p : Price) where
   previewed-tightened h k = go (candidate t.side t.trail p.0) refl
     where
       go : (c : Option ℕ) → candidate t.side t.trail p.0 ≡ c → previewed_at t p ≡ ratcheted t p
-      go none e = let g = behind_irrefl t.side t.stop.0 in let k' = rw e at k in cc
-      go (some c) e =
+      go None e = let g = behind_irrefl t.side t.stop.0 in let k' = rw e at k in cc
+      go (Some c) e =
           let f = sym (tightened-behind-candidate t.side t.stop.0 c) ∙ rw e at k in
           ap (adjusted t) (preview-adjusted t.side t.stop t.trail t.watermark p c h e f)
           ∙ rw (e, tightened_past t.side t.stop.0 c f)
@@ -158,8 +158,8 @@ unfolding previewed_at adjusted
 previewed_side u p = go (preview u.side u.stop u.trail u.watermark p)
   where
     go : (a : Option Adjustment) → (adjusted u a).side ≡ u.side
-    go none = refl
-    go (some a) = refl
+    go None = refl
+    go (Some a) = refl
 
 -- still does after the next price
 pub draws_next : (t u : StopTerms) → DrawsRight t u → (p : Price) → DrawsRight (trailed_at t p) (previewed_at u p)

@@ -1,6 +1,5 @@
 -- A stop as a panel draws it from the preview, price by price, and what is claimed of it: document 02, Two.
-use Rattle.std.specs.Prelude.{◌≡◌, List, [], ◌∷◌}
-use Rattle.std.proofs.Math.Option.{Option, none, some}
+use Rattle.std.specs.Prelude.{◌≡◌, List, [], ◌∷◌, None, Option, Some}
 use Rattle.pricelevel.specs.declared.Price.{Price}
 use Rattle.stop_terms.specs.Terms.{trailed_at}
 use Rattle.stop_terms.specs.declared.StopTerms.{StopTerms}
@@ -9,8 +8,8 @@ use Rattle.repricing.specs.declared.Adjustment.{Adjustment}
 
 -- a panel takes over the new stop and the new watermark; an empty preview means that its terms stay
 unfoldable pub adjusted : StopTerms → Option Adjustment → StopTerms
-adjusted t none = t
-adjusted t (some a) = record { side = t.side; stop = a.stop; watermark = a.reference; trail = t.trail }
+adjusted t None = t
+adjusted t (Some a) = record { side = t.side; stop = a.stop; watermark = a.reference; trail = t.trail }
 
 -- a panel's terms after a price
 unfoldable pub previewed_at : StopTerms → Price → StopTerms

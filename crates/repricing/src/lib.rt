@@ -4,23 +4,15 @@
 #![tactic(auto)]
 
 ghost use Rattle.std.specs.Prelude.{◌≡◌};
-ghost use Rattle.repricing.specs.Preview.{preview, told_preview};
+ghost use Rattle.repricing.specs.Preview.{preview};
 
 use pricelevel::{Price, Side};
-use stop_terms::Candidate;
 
 // The new stop price and the new reference price.
 #[derive(Clone, Copy)]
 pub struct Adjustment {
     pub stop: Price,
     pub reference: Price,
-}
-
-// What calculate_trailing_stop_price answers.
-#[derive(Clone, Copy)]
-pub enum TrailingStopPrice {
-    None,
-    Adjusted(Adjustment),
 }
 
 // The adjustment of a trailing stop, if the market price is past the last reference price and the stop improves.
@@ -30,20 +22,19 @@ pub fn calculate_trailing_stop_price(
     trail_amount: u64,
     last_reference_price: Price,
     current_market_price: Price,
-) -> TrailingStopPrice
-    ensures { told_preview result ≡ preview side current_stop_price trail_amount last_reference_price current_market_price }
+) -> Option<Adjustment>
+    ensures { result ≡ preview side current_stop_price trail_amount last_reference_price current_market_price }
 {
     if !stop_terms::is_behind(side, last_reference_price, current_market_price) {
-        return TrailingStopPrice::None;
+        return None;
     }
-    let Candidate::At(stop) = stop_terms::candidate_at(side, trail_amount, current_market_price)
-    else {
-        return TrailingStopPrice::None;
+    let Some(stop) = stop_terms::candidate_at(side, trail_amount, current_market_price) else {
+        return None;
     };
     if !stop_terms::is_behind(side, current_stop_price, stop) {
-        return TrailingStopPrice::None;
+        return None;
     }
-    TrailingStopPrice::Adjusted(Adjustment {
+    Some(Adjustment {
         stop: stop,
         reference: current_market_price,
     })

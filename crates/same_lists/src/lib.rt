@@ -6,69 +6,11 @@ ghost use Rattle.book.specs.Lists.{same_by, same_list};
 
 use book::{Counts, ElectedWords, MovedWords};
 
-// Whether two lists of words are the same.
-fn same_words(a: &[u64], b: &[u64]) -> bool
-    ensures { result ≡ same_list a.now b.now }
-{
-    if a.len() != b.len() {
-        return false;
-    }
-    let mut i: usize = 0;
-    while i < a.len() {
-        if a[i] != b[i] {
-            return false;
-        }
-        i += 1;
-    }
-    true
-}
-
-// Whether two entries of an elected list are the same; and two of a moved list.
-
-fn same_election(a: &ElectedWords, b: &ElectedWords) -> bool
-    ensures { result ≡ same_list a.now b.now }
-{
-    same_words(a, b)
-}
-
-fn same_move(a: &MovedWords, b: &MovedWords) -> bool
-    ensures { result ≡ same_list a.now b.now }
-{
-    same_words(a, b)
-}
-
-// Whether two lists of elected entries are the same.
-pub fn same_elected(a: &[ElectedWords], b: &[ElectedWords]) -> bool
+// Whether two lists of entries of N words are the same.
+pub fn same_entries<const N: usize>(a: &[[u64; N]], b: &[[u64; N]]) -> bool
     ensures { result ≡ same_by same_list a.now b.now }
 {
-    if a.len() != b.len() {
-        return false;
-    }
-    let mut i: usize = 0;
-    while i < a.len() {
-        if !same_election(&a[i], &b[i]) {
-            return false;
-        }
-        i += 1;
-    }
-    true
-}
-
-// Whether two lists of moved entries are the same.
-pub fn same_moved(a: &[MovedWords], b: &[MovedWords]) -> bool
-    ensures { result ≡ same_by same_list a.now b.now }
-{
-    if a.len() != b.len() {
-        return false;
-    }
-    let mut i: usize = 0;
-    while i < a.len() {
-        if !same_move(&a[i], &b[i]) {
-            return false;
-        }
-        i += 1;
-    }
-    true
+    a == b
 }
 
 // Whether the lists that are handed in are what was listed: so many elected and moved entries, the same.
@@ -85,8 +27,8 @@ pub fn are_listed(
 {
     let e = counts.elected as usize;
     let m = counts.moves as usize;
-    if !same_elected(elected, &listed[..e]) {
+    if !same_entries(elected, &listed[..e]) {
         return false;
     }
-    same_moved(moved, &shifted[..m])
+    same_entries(moved, &shifted[..m])
 }

@@ -52,41 +52,41 @@ module _ (script : List ℕ) (used : ℕ) (e : Elected) (es : List Elected) wher
       )
 
 -- the elected es of a list have executed up to entry i: those that are left, and the segments so far
-pub record Progress (list : List (List ℕ)) (to : ℕ) (script : List ℕ) (es : List Elected) (words : List (List ℕ))
+pub record Progress (list : List (List ℕ)) (to : ℕ) (script : List ℕ) (es : List Elected) (queue : List PrintSegment)
     (tail : ℕ)
-    (words' : List (List ℕ)) (used tail' i : ℕ) (left : List Elected) : Type 0 where
+    (queue' : List PrintSegment) (used tail' i : ℕ) (left : List Elected) : Type 0 where
   pub flags : Flags list i left
   pub ends : to ≡ i + length left
   pub done : List PrintSegment
-  pub adds : Enqueued done words tail words' tail'
+  pub adds : Enqueued done queue tail queue' tail'
   pub segments : (executed script es).segments ≡ done ++ (executed (drop (script_entry_length * used) script) left).segments
   pub uses : (executed script es).used ≡ used + (executed (drop (script_entry_length * used) script) left).used
   pub few : length done + length left ≤ length es
   pub within : script_entry_length * used ≤ length script
 
-module _ {list : List (List ℕ)} {to : ℕ} {script : List ℕ} {es : List Elected} {words : List (List ℕ)} {tail : ℕ} where
+module _ {list : List (List ℕ)} {to : ℕ} {script : List ℕ} {es : List Elected} {queue : List PrintSegment} {tail : ℕ} where
   pub progress_start : (from : ℕ) → Flags list from es → to ≡ from + length es
-      → Progress list to script es words tail words 0 tail from es
+      → Progress list to script es queue tail queue 0 tail from es
   progress_start from flags ends = record {
     flags = flags;
     ends = ends;
     done = [];
-    adds = enqueued_none words tail;
+    adds = enqueued_none queue tail;
     segments = refl;
     uses = sym (zero-add _);
     few = omega arith;
     within = omega arith;
   }
 
-  module _ {words' : List (List ℕ)} {used tail' i : ℕ} where
+  module _ {queue' : List PrintSegment} {used tail' i : ℕ} where
     -- after a turn
-    pub progress_next : (left : List Elected) → Progress list to script es words tail words' used tail' i left → i < to
-        → script_formed script ≡ true → (words'' : List (List ℕ)) (used' tail'' : ℕ)
+    pub progress_next : (left : List Elected) → Progress list to script es queue tail queue' used tail' i left → i < to
+        → script_formed script ≡ true → (queue'' : List PrintSegment) (used' tail'' : ℕ)
         → ((e : Elected) → get_or (get_or list i []) pending_place 0 ≡ pending_word e
-        → Advanced (execute_one (drop (script_entry_length * used) script) e) used words' tail' used' words'' tail'')
-        → (left' : List Elected) × Progress list to script es words tail words'' used' tail'' (i + 1) left'
-    progress_next [] p h f words'' used' tail'' turn = absurd (omega (arith, p.ends))
-    progress_next (e ∷ left) p h f words'' used' tail'' turn =
+        → Advanced (execute_one (drop (script_entry_length * used) script) e) used queue' tail' used' queue'' tail'')
+        → (left' : List Elected) × Progress list to script es queue tail queue'' used' tail'' (i + 1) left'
+    progress_next [] p h f queue'' used' tail'' turn = absurd (omega (arith, p.ends))
+    progress_next (e ∷ left) p h f queue'' used' tail'' turn =
         let a = turn e p.flags.0 in
         let one : Executed = execute_one (drop (script_entry_length * used) script) e in (
           left,
@@ -105,15 +105,15 @@ module _ {list : List (List ℕ)} {to : ℕ} {script : List ℕ} {es : List Elec
         )
 
     -- after the last turn
-    pub progress_end : (left : List Elected) → Progress list to script es words tail words' used tail' i left → to ≤ i
-        → (used ≡ (executed script es).used) × Enqueued (executed script es).segments words tail words' tail'
+    pub progress_end : (left : List Elected) → Progress list to script es queue tail queue' used tail' i left → to ≤ i
+        → (used ≡ (executed script es).used) × Enqueued (executed script es).segments queue tail queue' tail'
     unfolding executed
     progress_end [] p h = (omega (arith, p.uses), rw (p.segments, append-nil) p.adds)
     progress_end (e ∷ left) p h = absurd (omega (arith, p.ends))
 
     -- there is room for the next segment
-    pub progress_room : (left : List Elected) → Progress list to script es words tail words' used tail' i left → i < to
-        → tail + length es ≤ length words → tail' < length words'
+    pub progress_room : (left : List Elected) → Progress list to script es queue tail queue' used tail' i left → i < to
+        → tail + length es ≤ length queue → tail' < length queue'
     progress_room left p h room = rw (enqueued_length p.adds) (omega (arith, p.ends, p.few, p.adds.ends))
 
 ------------------------------------------------------------------------

@@ -10,6 +10,7 @@ use lib.ListN.{length}
 use Rattle.book.proofs.Execution.{script_formed_length}
 use Rattle.book.specs.Script.{script_formed, script_segment, execute_one}
 use Rattle.book.specs.Sizes.{script_entry_length}
+use Rattle.book.specs.declared.PrintSegment.{PrintSegment}
 use Rattle.book.specs.declared.Elected.{Elected}
 use Rattle.script.specs.Execute.{pending_word, Advanced}
 use Rattle.script.specs.Queue.{Enqueued}
@@ -28,9 +29,9 @@ module _ (e : Elected) (pending : ℕ) (is : pending ≡ pending_word e) where
   unfolding pending_word
   pending_false h = cases e.pending (λ f. absurd (h (rw f at is))) (λ f. f)
 
-  module _ (script : List ℕ) (used : ℕ) (words : List (List ℕ)) (tail : ℕ) where
+  module _ (script : List ℕ) (used : ℕ) (queue : List PrintSegment) (tail : ℕ) where
     -- its child identity is pending
-    pub one_pending : pending ≡ 1 → Advanced (execute_one script e) used words tail used words tail
+    pub one_pending : pending ≡ 1 → Advanced (execute_one script e) used queue tail used queue tail
     unfolding execute_one
     one_pending h = rw (pending_true h) (record {
       uses = omega arith;
@@ -38,7 +39,7 @@ module _ (e : Elected) (pending : ℕ) (is : pending ≡ pending_word e) where
     })
 
     -- no entry is left
-    pub one-missing : length script ≡ 0 → Advanced (execute_one script e) used words tail used words tail
+    pub one-missing : length script ≡ 0 → Advanced (execute_one script e) used queue tail used queue tail
     unfolding execute_one
     one-missing h = cases e.pending (λ f. rw f (record {
       uses = omega arith;
@@ -47,10 +48,10 @@ module _ (e : Elected) (pending : ℕ) (is : pending ≡ pending_word e) where
         (λ f. rw (f, eq-eqb _ _ h) (record { uses = omega arith; adds = record { stand = refl; ends = omega arith } }))
 
     -- it uses an entry
-    pub one_entry : (pending ≡ 1 → ⊥) → 0 < length script → (words' : List (List ℕ)) (tail' : ℕ)
-        → Enqueued (script_segment script) words tail words' tail'
-        → Advanced (execute_one script e) used words tail (used + 1) words' tail'
+    pub one_entry : (pending ≡ 1 → ⊥) → 0 < length script → (queue' : List PrintSegment) (tail' : ℕ)
+        → Enqueued (script_segment script) queue tail queue' tail'
+        → Advanced (execute_one script e) used queue tail (used + 1) queue' tail'
     unfolding execute_one
-    one_entry h some words' tail' put =
+    one_entry h some queue' tail' put =
         let left : length script ≡ 0 → ⊥ = λ z. omega arith in
         rw (pending_false h, ne_eqb _ _ left) (record { uses = refl; adds = put })

@@ -1,27 +1,25 @@
 -- The form of a script, entry by entry: the first entry, and the script behind the first entries.
-use Prim.Native.Nat.{ℕ, zero, suc, ◌+◌, ◌-◌, ◌*◌, ◌≤◌, ◌<◌}
+use Prim.Native.Nat.{ℕ, zero, suc, ◌+◌, ◌-◌, ◌*◌, ◌%◌, ◌≤◌, ◌<◌}
 use mathlib.Core.Bool.{true, false, ◌&&◌, false≢true}
 use mathlib.Core.List.{List, [], ◌∷◌}
 use mathlib.Core.Path.{◌≡◌, refl, ◌∙◌}
 use native.Mathlib.Nat.{add-zero}
 use native.Mathlib.Omega.{arith}
 use borrow.Author.Tests.{le-leb, lt-leb}
+use borrow.Table.Steps.{cases}
 use lib.Dec.{leb}
 use lib.ListN.{length, get_or, take, drop, length-drop, drop_of_length-le}
 use lib.Seq.{take_all, get_or-drop, drop-drop}
 use Rattle.pricelevel.proofs.Bools.{and_parts}
+use Rattle.book.proofs.Execution.{script_formed_length}
 use Rattle.book.specs.Script.{script_formed}
 use Rattle.book.specs.Sizes.{script_entry_length}
 
--- less than an entry is not formed
-pub formed_part : (l : List ℕ) → 0 < length l → length l < script_entry_length → script_formed l ≡ false
-unfolding script_formed
-formed_part [] some few = absurd (omega arith)
-formed_part (a ∷ []) some few = refl
-formed_part (a ∷ b ∷ []) some few = refl
-formed_part (a ∷ b ∷ c ∷ []) some few = refl
-formed_part (a ∷ b ∷ c ∷ d ∷ []) some few = refl
-formed_part (a ∷ b ∷ c ∷ d ∷ f ∷ l) some few = absurd (omega arith)
+-- words that are no whole entries are not formed
+pub formed_whole : (l : List ℕ) → (length l % script_entry_length ≡ 0 → ⊥) → script_formed l ≡ false
+formed_whole l h = cases (script_formed l)
+    (λ e. let (n, whole) = script_formed_length l e in absurd (h (omega (arith, whole))))
+    (λ e. e)
 
 -- a whole entry is formed by its two flags
 pub formed_entry : (l : List ℕ) → script_entry_length ≤ length l
@@ -70,10 +68,6 @@ module _ {script : List ℕ} {at : ℕ} (f : FormedFrom script at) where
   pub formed_end : length script ≤ at → script_formed script ≡ true
   unfolding script_formed
   formed_end h = rw (f.same, drop_of_length-le script h)
-
-  pub formed_rest : at < length script → length script - at < script_entry_length → script_formed script ≡ false
-  formed_rest some few =
-      f.same ∙ formed_part (drop at script) (rw length-drop (omega arith)) (rw length-drop (omega arith))
 
   module _ (whole : script_entry_length ≤ length script - at) where
     formed_at : script_formed script

@@ -2,6 +2,7 @@
 use Rattle.std.specs.Prelude.{ℕ, suc, ◌+◌, cond, List, [], ◌∷◌, ◌≡◌, get_or}
 use Rattle.book.specs.Script.{Executed}
 use Rattle.book.specs.Sizes.{pending_place}
+use Rattle.book.specs.declared.PrintSegment.{PrintSegment}
 use Rattle.book.specs.declared.Elected.{Elected}
 use Rattle.script.specs.Queue.{Enqueued}
 
@@ -15,7 +16,7 @@ Flags list from [] = Unit {0}
 Flags list from (e ∷ es) = (get_or (get_or list from []) pending_place 0 ≡ pending_word e) × Flags list (suc from) es
 
 -- elected have executed so: the script entries that are used, the queue's list and its tail, before and after
-pub record Advanced (run : Executed) (used : ℕ) (words : List (List ℕ)) (tail : ℕ) (used' : ℕ) (words' : List (List ℕ))
+pub record Advanced (run : Executed) (used : ℕ) (queue : List PrintSegment) (tail : ℕ) (used' : ℕ) (queue' : List PrintSegment)
     (tail' : ℕ) : Type 0 where
   pub uses : used' ≡ used + run.used
-  pub adds : Enqueued run.segments words tail words' tail'
+  pub adds : Enqueued run.segments queue tail queue' tail'

@@ -1,7 +1,6 @@
 // The script of a pass, which stands for the matching of the children, and the queue of the segments that they print.
 //
 //     script entry: printed (0, 1), prev present (0, 1), prev, first, last
-//     queue entry: prev present (0, 1), prev (0 if absent), first, last
 #![tactic(auto)]
 
 ghost use Rattle.std.specs.Prelude.{true, List, ◌≡◌, ◌+◌, ◌*◌, ◌≤◌, ◌<◌, length, drop};
@@ -11,45 +10,46 @@ ghost use Rattle.book.specs.declared.Elected.{Elected};
 ghost use Rattle.script.specs.Execute.{pending_word, Flags, Advanced};
 ghost use Rattle.script.specs.Queue.{Enqueued};
 
-use book::{ElectedWords, PENDING_PLACE, SCRIPT_ENTRY_WORDS};
+use book::{ElectedWords, PENDING_PLACE, PrintSegment, SCRIPT_ENTRY_WORDS};
+use pricelevel::Price;
 
 // Whether a script is of whole entries, with both flags of each 0 or 1.
 pub fn script_formed(script: &[u64]) -> bool
     ensures { result ≡ script_formed script.now }
 {
-    let mut at: usize = 0;
-    while at < script.len() {
-        if script.len() - at < SCRIPT_ENTRY_WORDS {
-            return false;
-        }
+    if script.len() % SCRIPT_ENTRY_WORDS != 0 {
+        return false;
+    }
+    for k in 0..script.len() / SCRIPT_ENTRY_WORDS {
+        let at = SCRIPT_ENTRY_WORDS * k;
         if script[at] > 1 {
             return false;
         }
         if script[at + 1] > 1 {
             return false;
         }
-        at += SCRIPT_ENTRY_WORDS;
     }
     true
 }
 
 // Puts the segment that an entry of the script printed, if it printed one, behind the queue, and answers the tail after
 // it.
-fn put_printed(script: &[u64], at: usize, queue: &mut [[u64; 4]], tail: usize) -> usize
+fn put_printed(script: &[u64], at: usize, queue: &mut [PrintSegment], tail: usize) -> usize
     requires { (at + script_entry_length ≤ length script.now) × (tail < length queue.old) }
     ensures { Enqueued (script_segment (drop at script.now)) queue.old tail queue.new result }
 {
     if script[at] != 1 {
         return tail;
     }
-    let first = script[at + 3];
-    let last = script[at + 4];
+    let mut prev = None;
     if script[at + 1] == 1 {
-        let prev = script[at + 2];
-        queue[tail] = [1, prev, first, last];
-        return tail + 1;
+        prev = Some(Price(script[at + 2]));
     }
-    queue[tail] = [0, 0, first, last];
+    queue[tail] = PrintSegment {
+        prev: prev,
+        first: Price(script[at + 3]),
+        last: Price(script[at + 4]),
+    };
     tail + 1
 }
 
@@ -66,7 +66,7 @@ fn execute_one(
     pending: u64,
     script: &[u64],
     used: usize,
-    queue: &mut [[u64; 4]],
+    queue: &mut [PrintSegment],
     tail: usize,
 ) -> Execution
     requires { (script_formed script.now ≡ true) × (script_entry_length * used ≤ length script.now) × (tail < length queue.old) }
@@ -101,7 +101,7 @@ pub fn execute(
     from: usize,
     to: usize,
     script: &[u64],
-    queue: &mut [[u64; 4]],
+    queue: &mut [PrintSegment],
     tail: usize,
 ) -> Execution
     requires script_value { script_formed script.now ≡ true }
@@ -114,13 +114,11 @@ pub fn execute(
 {
     let mut used: usize = 0;
     let mut end = tail;
-    let mut i = from;
-    while i < to {
+    for i in from..to {
         let pending = list[i][PENDING_PLACE];
         let after = execute_one(pending, script, used, queue, end);
         used = after.used;
         end = after.tail;
-        i += 1;
     }
     Execution {
         used: used,

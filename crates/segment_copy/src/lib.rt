@@ -2,13 +2,14 @@
 #![tactic(auto)]
 
 ghost use Rattle.std.specs.Prelude.{min, ◌++◌, map, ◌≡◌, length, take, drop};
-ghost use Rattle.book.specs.Answers.{told_counts};
+ghost use Rattle.error.specs.Answer.{told_answer};
 ghost use Rattle.book.specs.Calls.{written, segment_call};
 ghost use Rattle.book.specs.Entries.{elected_words, moved_words};
 ghost use Rattle.book.specs.Sizes.{most_words};
 
-use book::{ElectedWords, EvaluationAnswer, MovedWords, PrintSegment, STORE_WORDS, Settings};
+use book::{Counts, ElectedWords, MovedWords, PrintSegment, STORE_WORDS, Settings};
 use copying::copy_start;
+use error::Refusal;
 use evaluate_segment::segment;
 
 // Room for a copy of the largest store.
@@ -21,7 +22,7 @@ pub fn store_room() -> [u64; STORE_WORDS]
 // What a segment on a copy answers, and how many words of the store were copied.
 #[derive(Clone, Copy)]
 pub struct OnCopy {
-    pub answer: EvaluationAnswer,
+    pub answer: Result<Counts, Refusal>,
     pub many: usize,
 }
 
@@ -38,7 +39,7 @@ pub fn segment_on_copy(
 ) -> OnCopy
     requires { length copied.old ≡ most_words }
     ensures { let o = segment_call settings prints s.now (length elected.old) (length moved.old) in
-        (told_counts result.answer ≡ o.answer)
+        (told_answer result.answer ≡ o.answer)
         × (result.many ≡ min most_words (length s.now))
         × (take result.many copied.new ++ drop result.many s.now ≡ o.words)
         × (elected.new ≡ written (map elected_words o.elected) elected.old)

@@ -13,7 +13,6 @@ use Rattle.book.proofs.PointCounts.{point_count, point-moves}
 use Rattle.book.proofs.Walks.{then_none}
 use Rattle.book.specs.Book.{Book, pending_count}
 use Rattle.book.specs.Evaluation.{Evaluated, moved_by, point, sells_first, falls_to, and_then, walk_from, segment}
-use Rattle.book.specs.declared.LastPrice.TheVariants as last
 use Rattle.book.specs.declared.PrintSegment.{PrintSegment}
 use Rattle.book.specs.Entries.{moved_words}
 use Rattle.listing.specs.ChainEntries.{fill_words}
@@ -21,8 +20,7 @@ use Rattle.pending_stops.specs.Stored.{Stored}
 use Rattle.points.proofs.PointsOnWords.{Does, does_same, does_then}
 use Rattle.points.proofs.Steps.{run_on, ListsMoves}
 use Rattle.segments.specs.Segments.{second_point}
-use Rattle.segments.specs.declared.SecondPoint.{SecondPoint}
-use Rattle.segments.specs.declared.SecondPoint.TheVariants as second
+use Rattle.std.specs.Prelude.{None, Option, Some}
 
 module _ (kill : Bool) (s : PrintSegment) where
   abbrev pub first_point : Book → Evaluated
@@ -30,13 +28,13 @@ module _ (kill : Bool) (s : PrintSegment) where
 
   -- a point at a price arrived from the first
   abbrev pub point_after : Price → Book → Evaluated
-  point_after price = point kill (sells_first (falls_to s.first s.last) (last.At s.first) price) price
+  point_after price = point kill (sells_first (falls_to s.first s.last) (Some s.first) price) price
 
-  abbrev pub points_by : SecondPoint → Book → Evaluated
-  points_by second.None b = first_point b
-  points_by (second.At price) b = and_then (first_point b) (point_after price (first_point b).book)
+  abbrev pub points_by : Option Price → Book → Evaluated
+  points_by None b = first_point b
+  points_by (Some price) b = and_then (first_point b) (point_after price (first_point b).book)
 
-  pub segment_by : (k : SecondPoint) → k ≡ second_point s.first s.last → (b : Book)
+  pub segment_by : (k : Option Price) → k ≡ second_point s.first s.last → (b : Book)
       → points_by k b ≡ segment kill s b
   unfolding second_point segment walk_from
   segment_by k e b =
@@ -45,14 +43,14 @@ module _ (kill : Bool) (s : PrintSegment) where
 
   module _ {n : ℕ} {w v : List ℕ} (l k : List (List ℕ)) (at m mid : ℕ)
       (first : Does first_point n w v l k at m mid) where
-    pub segment_one : second.None ≡ second_point s.first s.last → Does (segment kill s) n w v l k at m mid
-    segment_one e = does_same (points_by second.None) (segment kill s) (segment_by second.None e) l k at m mid first
+    pub segment_one : None ≡ second_point s.first s.last → Does (segment kill s) n w v l k at m mid
+    segment_one e = does_same (points_by None) (segment kill s) (segment_by None e) l k at m mid first
 
-    pub segment_two : (price : Price) → second.At price ≡ second_point s.first s.last
+    pub segment_two : (price : Price) → Some price ≡ second_point s.first s.last
         → {x : List ℕ} (j : List (List ℕ)) (q end : ℕ)
         → Does (point_after price) n v x k j mid q end → Does (segment kill s) n w x l j at (m + q) end
     segment_two price e j q end later =
-        does_same (points_by (second.At price)) (segment kill s) (segment_by (second.At price) e) l j at (m + q) end
+        does_same (points_by (Some price)) (segment kill s) (segment_by (Some price) e) l j at (m + q) end
         (does_then first_point (point_after price) l k j at m mid q end first later)
 
 ------------------------------------------------------------------------
@@ -81,19 +79,19 @@ Notes o n w l k = (b : Book) (r : List ℕ) → Stored n w b r → k ≡ sets l 
 
 module _ (kill : Bool) (s : PrintSegment) {n : ℕ} {w : List ℕ} (l k : List (List ℕ)) (m : ℕ)
     (lists : ListsMoves s.first n w l k 0 m) where
-  pub notes_one : second.None ≡ second_point s.first s.last → Notes (segment kill s) n w l k
+  pub notes_one : None ≡ second_point s.first s.last → Notes (segment kill s) n w l k
   unfolding point
-  notes_one e b r st = rw (← segment_by kill s second.None e b) (lists b r st).1
+  notes_one e b r st = rw (← segment_by kill s None e b) (lists b r st).1
 
   pub notes_two : {v : List ℕ} (i j : List (List ℕ)) (q mid : ℕ) → Does (first_point kill s) n w v i j 0 q mid
-      → (price : Price) → second.At price ≡ second_point s.first s.last → (x : List (List ℕ)) (end : ℕ)
+      → (price : Price) → Some price ≡ second_point s.first s.last → (x : List (List ℕ)) (end : ℕ)
       → ListsMoves price n v k x m end
       → Notes (segment kill s) n w l x
   unfolding and_then point
   notes_two i j q mid first price e x end more b r st =
       let (f, g) = lists b r st in
       let (h, a) = more _ r (first b r st).3 in
-      rw (← segment_by kill s (second.At price) e b)
+      rw (← segment_by kill s (Some price) e b)
       (run_on moved_words (moved_by s.first b) (moved_by price (first_point kill s b).book) l k x 0 m end f g h a).1
 
 -- both lists

@@ -10,7 +10,7 @@ ghost use Rattle.listing.specs.ChainEntries.{fill_words};
 ghost use Rattle.pending_stops.specs.Stored.{Stored};
 ghost use Rattle.segments.specs.Segments.{second_point};
 
-use book::{ElectedWords, LastPrice, MovedWords, PrintSegment};
+use book::{ElectedWords, MovedWords, PrintSegment};
 use listing::list_moved;
 use points::{Points, point};
 use pricelevel::{Price, Side};
@@ -34,21 +34,14 @@ pub fn list_moves(s: &[u64], n: u64, price: Price, moved: &mut [MovedWords], at:
 // ---------------------------------------------------------------------
 // A segment
 
-// The second point of a segment, if it has one.
-#[derive(Clone, Copy)]
-enum SecondPoint {
-    None,
-    At(Price),
-}
-
 // A segment has a second point, at its last print, if that differs from the first.
-fn second_point(first: Price, last: Price) -> SecondPoint
+fn second_point(first: Price, last: Price) -> Option<Price>
     ensures { result ≡ second_point first last }
 {
     if first.0 == last.0 {
-        return SecondPoint::None;
+        return None;
     }
-    SecondPoint::At(last)
+    Some(last)
 }
 
 // The points of a segment, whose fills go into the list, from a place on.
@@ -72,10 +65,10 @@ pub fn segment_points(
     let last = prints.last;
     let falls = falls_to(first, last);
     let one = point(s, n, kill, sells_first(falls, prev, first), first, list, at);
-    let SecondPoint::At(end) = second_point(first, last) else {
+    let Some(end) = second_point(first, last) else {
         return one;
     };
-    let sells = sells_first(falls, LastPrice::At(first), end);
+    let sells = sells_first(falls, Some(first), end);
     let two = point(s, n, kill, sells, end, list, one.at);
     Points {
         moves: one.moves + two.moves,
@@ -107,11 +100,11 @@ pub fn segment_listed(
     let falls = falls_to(first, last);
     let middle = list_moves(&s[..], n, first, moved, 0);
     let one = point(s, n, kill, sells_first(falls, prev, first), first, list, 0);
-    let SecondPoint::At(end) = second_point(first, last) else {
+    let Some(end) = second_point(first, last) else {
         return one;
     };
     list_moves(&s[..], n, end, moved, middle);
-    let sells = sells_first(falls, LastPrice::At(first), end);
+    let sells = sells_first(falls, Some(first), end);
     let two = point(s, n, kill, sells, end, list, one.at);
     Points {
         moves: one.moves + two.moves,

@@ -42,11 +42,9 @@ pub fn keep_selected(s: &[u64], n: u64, selector: Selector, order: &mut [u64], k
     ensures { Begins order.new result (selected_in s.now selector (take k order.old)) × (result ≤ k) }
 {
     let mut m: usize = 0;
-    let mut i: usize = 0;
-    while i < k {
+    for i in 0..k {
         let x = order[i];
         let t = entry_at(s, n, x);
-        i += 1;
         if !selects(selector, t) {
             continue;
         }
@@ -61,11 +59,9 @@ pub fn list_records(s: &[u64], n: u64, order: &[u64], m: usize, list: &mut [Stop
     requires { Named n s.now (take m order.now) × (m ≤ length order.now) × (m ≤ length list.old) }
     ensures { list.new ≡ written (map (entry_words_in s.now) (take m order.now)) list.old }
 {
-    let mut i: usize = 0;
-    while i < m {
+    for i in 0..m {
         let x = order[i];
         let t = entry_at(s, n, x);
         list[i] = stop_words(t);
-        i += 1;
     }
 }

@@ -2,9 +2,8 @@
 ghost use Rattle.std.specs.Prelude.{◌+◌, ◌-◌, ◌≤◌, ◌≡◌, length};
 
 use crate::lending::Desk;
-use crate::{lending, running};
+use crate::running;
 use session_text::lent::MOST_WORDS;
-use session_text::numbers::place_of;
 use session_text::printing;
 
 // Where a text's lines end, and what is lent after them.
@@ -18,17 +17,16 @@ struct Done {
 fn lines(text: &[u8], words: &mut [u64], path: &mut [u64; 4], lent: Desk) -> Done
     ensures { result.at ≤ length text.now }
 {
+    let at = match text.iter().rposition(|c| *c == b'\n') {
+        Some(last) => last + 1,
+        None => 0,
+    };
     let mut desk = lent;
-    let mut at: usize = 0;
-    while at < text.len() {
-        let end = place_of(text, at, b'\n');
-        if end == text.len() {
-            break;
-        }
-        desk = running::line(&text[at..end], words, path, desk);
-        at = end + 1;
+    for whole in text[..at].split_inclusive(|c| *c == b'\n') {
+        let line = whole.strip_suffix(b"\n").unwrap_or(whole);
+        desk = running::line(line, words, path, desk);
     }
-    Done { at: at, desk: desk }
+    Done { at, desk }
 }
 
 // Moves the bytes between two places to the beginning. Answers how many.
@@ -36,12 +34,8 @@ fn keep(text: &mut [u8], at: usize, end: usize) -> usize
     requires { (at ≤ end) × (end ≤ length text.old) }
     ensures { (result ≤ length text.old) × (length text.new ≡ length text.old) }
 {
-    let mut i: usize = 0;
-    while i < end - at {
-        text[i] = text[at + i];
-        i += 1;
-    }
-    i
+    text.copy_within(at..end, 0);
+    end - at
 }
 
 // Reads on behind the first bytes, and answers how many came.
@@ -69,11 +63,10 @@ fn read_on(text: &mut [u8], kept: usize, words: &mut [u64], path: &mut [u64; 4],
     let got = more(text, kept);
     let end = kept + got;
     let done = lines(&text[0..end], words, path, desk);
-    let after = done.desk;
     Turn {
-        got: got,
+        got,
         kept: keep(text, done.at, end),
-        desk: after,
+        desk: done.desk,
     }
 }
 
@@ -82,17 +75,15 @@ const MOST_BLOCKS: u64 = 0x1_0000_0000;
 
 // Runs every line of standard input, and answers how many bytes of a last line did not end.
 fn blocks(text: &mut [u8], words: &mut [u64], path: &mut [u64; 4]) -> usize {
-    let mut desk = lending::empty();
+    let mut desk = Desk::default();
     let mut kept: usize = 0;
-    let mut left = MOST_BLOCKS;
-    while left > 0 {
+    for _ in 0..MOST_BLOCKS {
         let t = read_on(text, kept, words, path, desk);
         if t.got == 0 {
             return kept;
         }
         kept = t.kept;
         desk = t.desk;
-        left -= 1;
     }
     kept
 }

@@ -1,9 +1,9 @@
 // A line that commits: the entries of both lists stand in it.
 use book::{ELECTED_WORDS, ElectedWords, MOVED_WORDS, MovedWords};
-use entry_groups::{read_elected, read_moved};
+use entry_groups::read;
 use session_text::lent::{LENT, MOST_ELECTED, MOST_MOVED};
 use session_text::printing;
-use word_groups::{four, rest, word};
+use word_groups::{first_words, rest, word};
 use yubtomiq::yubtomiq_commit_segment;
 
 // Where a line has how many entries the lists have, and the first of them.
@@ -18,13 +18,20 @@ fn commit_of(
     moved: &[MovedWords],
     answer: &mut [u64; 2],
 ) -> u64 {
-    yubtomiq_commit_segment(s, &four(n), &four(rest(n, 4)), elected, moved, answer)
+    yubtomiq_commit_segment(
+        s,
+        &first_words(n),
+        &first_words(rest(n, 4)),
+        elected,
+        moved,
+        answer,
+    )
 }
 
 fn with_lists(s: &mut [u64], n: &[u64], elected: &[ElectedWords], moved: &[MovedWords]) {
     let mut answer = [LENT; 2];
     let r = commit_of(s, n, elected, moved, &mut answer);
-    printing::two(r, &answer);
+    printing::answer(r, &answer);
 }
 
 // Commits with the lists of the line, of at most one entry more than a store can list.
@@ -33,13 +40,11 @@ pub fn commit(s: &mut [u64], n: &[u64]) {
     let mut moves = [[0u64; MOVED_WORDS]; MOST_MOVED];
     let elected = word(n, COUNTS) as usize;
     let moved = word(n, COUNTS + 1) as usize;
-    if elected <= MOST_ELECTED {
-        if moved <= MOST_MOVED {
-            read_elected(&mut fills, rest(n, ENTRIES));
-            read_moved(&mut moves, rest(n, ENTRIES + ELECTED_WORDS * elected));
-            let e: &[ElectedWords] = &fills;
-            let m: &[MovedWords] = &moves;
-            with_lists(s, n, &e[0..elected], &m[0..moved]);
-        }
+    if elected <= MOST_ELECTED && moved <= MOST_MOVED {
+        read(&mut fills, rest(n, ENTRIES));
+        read(&mut moves, rest(n, ENTRIES + ELECTED_WORDS * elected));
+        let e: &[ElectedWords] = &fills;
+        let m: &[MovedWords] = &moves;
+        with_lists(s, n, &e[0..elected], &m[0..moved]);
     }
 }

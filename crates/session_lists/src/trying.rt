@@ -1,22 +1,9 @@
 // A line that tries prices on the stops of a store.
-use crate::entries::entry;
+use crate::entries::entries;
 use book::{LADDER_WORDS, LadderWords};
 use session_text::lent::{LENT, MOST_LISTED};
 use session_text::printing;
 use yubtomiq::yubtomiq_ladder;
-
-fn ladder_entry(i: usize, words: &LadderWords) {
-    entry(b", ladder ", i, words);
-}
-
-fn ladder_entries(list: &[LadderWords]) {
-    let mut i: usize = 0;
-    while i < list.len() {
-        let e = list[i];
-        ladder_entry(i, &e);
-        i += 1;
-    }
-}
 
 fn ladder_of(s: &[u64], n: &[u64], list: &mut [LadderWords], answer: &mut [u64; 1]) -> u64 {
     yubtomiq_ladder(s, n, list, answer)
@@ -26,8 +13,8 @@ fn ladder_of(s: &[u64], n: &[u64], list: &mut [LadderWords], answer: &mut [u64; 
 fn on_list(s: &[u64], n: &[u64], list: &mut [LadderWords]) {
     let mut answer = [LENT; 1];
     let r = ladder_of(s, n, list, &mut answer);
-    printing::one(r, &answer);
-    ladder_entries(&list[..]);
+    printing::answer(r, &answer);
+    entries(b", ladder ", &list[..]);
 }
 
 // Lends a list of so many entries, at most one more than a store can need.

@@ -15,10 +15,8 @@ fn wrote(i: usize, word: u64) {
 
 fn places(list: &[u64]) {
     printing::text(b", turns");
-    let mut i: usize = 0;
-    while i < list.len() {
-        wrote(i, list[i]);
-        i += 1;
+    for (i, word) in list.iter().enumerate() {
+        wrote(i, *word);
     }
 }
 
@@ -30,7 +28,7 @@ fn turns_of(n: &[u64], list: &mut [u64], answer: &mut [u64; 1]) -> u64 {
 fn on_list(n: &[u64], list: &mut [u64]) {
     let mut answer = [LENT; 1];
     let r = turns_of(n, list, &mut answer);
-    printing::one(r, &answer);
+    printing::answer(r, &answer);
     places(&list[..]);
 }
 

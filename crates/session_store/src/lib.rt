@@ -4,8 +4,9 @@
 use book::{DATA_WORDS, MOST_RECORDS, StopWords};
 use host_words::{FOUND_WORDS, HolderWords};
 use session_text::lent::LENT;
-use session_text::{names, printing};
-use word_groups::{four, rest, set, three, two, word};
+use session_text::names::Name;
+use session_text::printing;
+use word_groups::{first_words, rest, set, word};
 use yubtomiq::{
     yubtomiq_admit_trailing_stop, yubtomiq_cancel_pending_stop, yubtomiq_clear,
     yubtomiq_layout_store, yubtomiq_pending_stop_order, yubtomiq_pending_stop_quantity,
@@ -14,21 +15,21 @@ use yubtomiq::{
 
 fn find(s: &[u64], n: &[u64]) {
     let mut answer = [LENT; FOUND_WORDS];
-    let r = yubtomiq_pending_stop_order(s, &three(n), &mut answer);
-    printing::found(r, &answer);
+    let r = yubtomiq_pending_stop_order(s, &first_words(n), &mut answer);
+    printing::answer(r, &answer);
 }
 
 fn quantity(s: &[u64]) {
     let mut answer = [LENT; 4];
     let r = yubtomiq_pending_stop_quantity(s, &mut answer);
-    printing::four(r, &answer);
+    printing::answer(r, &answer);
 }
 
 // Lines that only read the store.
-pub fn read(call: u64, s: &[u64], n: &[u64]) {
+pub fn read(call: Name, s: &[u64], n: &[u64]) {
     match call {
-        names::FIND => find(s, n),
-        names::QUANTITY => quantity(s),
+        Name::Find => find(s, n),
+        Name::Quantity => quantity(s),
         _ => printing::number(yubtomiq_well_formed(s)),
     }
 }
@@ -43,8 +44,8 @@ fn admit_stop(
     holder: &HolderWords,
     answer: &mut [u64; 1],
 ) -> u64 {
-    let id = three(stop);
-    let terms = four(rest(stop, 3));
+    let id = first_words(stop);
+    let terms = first_words(rest(stop, 3));
     yubtomiq_admit_trailing_stop(
         s,
         path,
@@ -64,33 +65,39 @@ fn admit(s: &mut [u64], path: &mut [u64; 4], n: &[u64]) {
         s,
         path,
         word(n, 0),
-        &two(rest(n, 1)),
+        &first_words(rest(n, 1)),
         rest(n, 3),
-        &four(rest(n, 11)),
+        &first_words(rest(n, 11)),
         &mut answer,
     );
-    printing::one(r, &answer);
+    printing::answer(r, &answer);
     printing::path(path);
 }
 
 fn update_of(s: &mut [u64], n: &[u64], answer: &mut StopWords) -> u64 {
-    yubtomiq_update_pending_stop(s, &three(n), &four(rest(n, 3)), &two(rest(n, 7)), answer)
+    yubtomiq_update_pending_stop(
+        s,
+        &first_words(n),
+        &first_words(rest(n, 3)),
+        &first_words(rest(n, 7)),
+        answer,
+    )
 }
 
 fn update(s: &mut [u64], n: &[u64]) {
     let mut answer = [LENT; DATA_WORDS];
     let r = update_of(s, n, &mut answer);
-    printing::stop(r, &answer);
+    printing::answer(r, &answer);
 }
 
 fn cancel_of(s: &mut [u64], n: &[u64], answer: &mut StopWords) -> u64 {
-    yubtomiq_cancel_pending_stop(s, &three(n), answer)
+    yubtomiq_cancel_pending_stop(s, &first_words(n), answer)
 }
 
 fn cancel(s: &mut [u64], n: &[u64]) {
     let mut answer = [LENT; DATA_WORDS];
     let r = cancel_of(s, n, &mut answer);
-    printing::stop(r, &answer);
+    printing::answer(r, &answer);
 }
 
 fn clear(s: &mut [u64], path: &mut [u64; 4]) {
@@ -108,12 +115,12 @@ fn layout(s: &mut [u64], n: &[u64]) {
 }
 
 // Lines that may alter the store.
-pub fn alter(call: u64, s: &mut [u64], path: &mut [u64; 4], n: &[u64]) {
+pub fn alter(call: Name, s: &mut [u64], path: &mut [u64; 4], n: &[u64]) {
     match call {
-        names::LAYOUT => layout(s, n),
-        names::ADMIT => admit(s, path, n),
-        names::UPDATE => update(s, n),
-        names::CANCEL => cancel(s, n),
+        Name::Layout => layout(s, n),
+        Name::Admit => admit(s, path, n),
+        Name::Update => update(s, n),
+        Name::Cancel => cancel(s, n),
         _ => clear(s, path),
     }
 }
@@ -129,7 +136,7 @@ fn admit_under(s: &mut [u64], stop: &[u64]) -> u64 {
         0,
         &[0, 0],
         stop,
-        &four(rest(stop, 9)),
+        &first_words(rest(stop, 9)),
         &mut answer,
     )
 }
@@ -145,10 +152,10 @@ pub fn book(s: &mut [u64], n: &[u64]) -> u64 {
         return 2;
     }
     let mut r = layout_of(s, count + 1, word(n, 0));
-    let mut k: usize = 0;
-    while k < count as usize {
-        r = first_refusal(r, admit_under(s, rest(n, 3 + DATA_WORDS * k)));
-        k += 1;
+    let mut stops = rest(n, 3);
+    for _ in 0..count {
+        r = first_refusal(r, admit_under(s, stops));
+        stops = rest(stops, DATA_WORDS);
     }
     set(s, 2, word(n, 1));
     r

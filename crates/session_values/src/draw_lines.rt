@@ -1,6 +1,6 @@
 // A line that draws a stop along prices, as the host keeps it and as a panel draws it from the preview, side by side.
 use session_text::printing;
-use word_groups::{four, rest};
+use word_groups::{first_words, rest};
 use yubtomiq::{yubtomiq_calculate_trailing_stop_price, yubtomiq_trailed};
 
 // The terms that the host keeps after a price. Those of an unknown side stay, as the call is refused.
@@ -33,18 +33,16 @@ fn shown(name: &[u8], terms: &[u64; 4]) {
 // Prints each price, and behind it what is kept and what is drawn after it.
 pub fn run(n: &[u64]) {
     let prices = rest(n, 4);
-    let mut kept = four(n);
-    let mut drawn = four(n);
-    let mut i: usize = 0;
-    while i < prices.len() {
-        kept = trailed(&kept, prices[i]);
-        drawn = previewed(&drawn, prices[i]);
+    let mut kept = first_words(n);
+    let mut drawn = first_words(n);
+    for (i, price) in prices.iter().enumerate() {
+        kept = trailed(&kept, *price);
+        drawn = previewed(&drawn, *price);
         if i > 0 {
             printing::text(b" | ");
         }
-        printing::number(prices[i]);
+        printing::number(*price);
         shown(b": kept ", &kept);
         shown(b", drawn ", &drawn);
-        i += 1;
     }
 }

@@ -15,10 +15,8 @@ fn steps_to(w: &[u32; 80], from: usize, to: usize, s: State) -> State
     ensures { (q : State) → s ≡ steps w.now from q → result ≡ steps w.now to q }
 {
     let mut r = s;
-    let mut t = from;
-    while t < to {
+    for t in from..to {
         r = step(t, w[t], r);
-        t += 1;
     }
     r
 }
@@ -64,10 +62,8 @@ pub fn hash(head: &[u8], tail: &[u8]) -> State
 {
     let count = (head.len() + tail.len() + 8) / 64 + 1;
     let mut s = initial();
-    let mut i: usize = 0;
-    while i < count {
+    for i in 0..count {
         s = block(head, tail, i, s);
-        i += 1;
     }
     s
 }

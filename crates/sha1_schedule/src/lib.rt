@@ -81,11 +81,9 @@ pub fn schedule(head: &[u8], tail: &[u8], i: usize) -> [u32; 80]
     ensures { result ≡ schedule (pad (head.now ++ tail.now)) i 80 }
 {
     let mut w = [0u32; 80];
-    let mut t: usize = 0;
-    while t < 80 {
+    for t in 0..80 {
         let x = next_word(head, tail, i, &w, t);
         w[t] = x;
-        t += 1;
     }
     w
 }

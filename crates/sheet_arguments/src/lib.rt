@@ -10,39 +10,22 @@ use text_identities::{identity_at, uuid_at};
 use text_numbers::{Step, count_at, got, number_at};
 
 // The argument that a letter asks for: its values, or its fault, and the place behind it.
+#[tactic(auto, unfolding(crate::specs::Arguments::argument_at))]
 pub fn argument_at(letter: u8, line: &[u8], at: usize) -> Step
     requires { at ≤ length line.now }
     ensures { (result ≡ argument_at letter line.now at) × (result.next ≤ length line.now) }
 {
-    if letter == b'n' {
-        return number_at(line, at);
+    match letter {
+        b'n' => number_at(line, at),
+        b'o' => optional_at(line, at),
+        b'i' => identity_at(line, at),
+        b'u' => uuid_at(line, at),
+        b'b' => either_at(b"on", b"off", 6, line, at),
+        b's' => either_at(b"sell", b"buy", 7, line, at),
+        b'h' => holder_at(line, at),
+        b'H' => holder_or_none(line, at),
+        b'p' => count_at(line, at),
+        b'c' => child_at(line, at),
+        _ => got(0, 0, 0, 0, 0, 0, at),
     }
-    if letter == b'o' {
-        return optional_at(line, at);
-    }
-    if letter == b'i' {
-        return identity_at(line, at);
-    }
-    if letter == b'u' {
-        return uuid_at(line, at);
-    }
-    if letter == b'b' {
-        return either_at(b"on", b"off", 6, line, at);
-    }
-    if letter == b's' {
-        return either_at(b"sell", b"buy", 7, line, at);
-    }
-    if letter == b'h' {
-        return holder_at(line, at);
-    }
-    if letter == b'H' {
-        return holder_or_none(line, at);
-    }
-    if letter == b'p' {
-        return count_at(line, at);
-    }
-    if letter == b'c' {
-        return child_at(line, at);
-    }
-    got(0, 0, 0, 0, 0, 0, at)
 }

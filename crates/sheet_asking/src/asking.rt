@@ -4,7 +4,7 @@ use book::{ELECTED_WORDS, ElectedWords, MOST_MOVES, MOST_RECORDS, MOVED_WORDS, M
 use entry_groups::{put_elected, put_moved};
 use sheet_desk::{
     ASKED_ELECTED, ASKED_ELECTS, ASKED_LINE, ASKED_MOVED, ASKED_MOVES, LINE, SETTINGS, TRADE,
-    refused, tell_text,
+    accepted, some_prints, tell_text,
 };
 use sheet_lines::names;
 use word_groups::{four, last, rest, set, word};
@@ -20,34 +20,30 @@ pub fn prints_of(desk: &[u64], run: &[u64]) -> [u64; 4] {
     ]
 }
 
+// How many it would move and elect.
 fn ask_of(
     s: &[u64],
     desk: &[u64],
     run: &[u64],
     elected: &mut [ElectedWords],
     moved: &mut [MovedWords],
-    answer: &mut [u64; 2],
-) -> u64 {
-    yubtomiq_ask_segment(
+) -> Result<[u64; 2], u64> {
+    let mut answer = [0u64; 2];
+    accepted(yubtomiq_ask_segment(
         s,
         &four(rest(desk, SETTINGS)),
         &prints_of(desk, run),
         elected,
         moved,
-        answer,
-    )
+        &mut answer,
+    ))?;
+    Ok(answer)
 }
 
-fn keep_elected(desk: &mut [u64], elected: &[ElectedWords]) {
-    if ASKED_ELECTED <= desk.len() {
-        put_elected(&mut desk[ASKED_ELECTED..], elected);
-    }
-}
-
-fn keep_moved(desk: &mut [u64], moved: &[MovedWords]) {
-    if ASKED_MOVED <= desk.len() {
-        put_moved(&mut desk[ASKED_MOVED..], moved);
-    }
+// The words of a desk from a place on; none beyond the last.
+fn room(desk: &mut [u64], at: usize) -> &mut [u64] {
+    let start = at.min(desk.len());
+    &mut desk[start..]
 }
 
 // Keeps both lists, as long as they can be; those behind the counts are not looked at.
@@ -56,20 +52,17 @@ fn keep(desk: &mut [u64], elected: &[ElectedWords], moved: &[MovedWords], counts
     set(desk, ASKED_LINE, line);
     set(desk, ASKED_MOVES, counts[0]);
     set(desk, ASKED_ELECTS, counts[1]);
-    keep_elected(desk, elected);
-    keep_moved(desk, moved);
+    put_elected(room(desk, ASKED_ELECTED), elected);
+    put_moved(room(desk, ASKED_MOVED), moved);
 }
 
-// Asks, and keeps what is answered. Answers the number of a refusal, or 0.
-fn asked(s: &[u64], desk: &mut [u64], run: &[u64]) -> u64 {
+// Asks, and keeps what is answered.
+fn asked(s: &[u64], desk: &mut [u64], run: &[u64]) -> Result<(), u64> {
     let mut elected = [[0u64; ELECTED_WORDS]; MOST_RECORDS];
     let mut moved = [[0u64; MOVED_WORDS]; MOST_MOVES];
-    let mut counts = [0u64; 2];
-    let r = ask_of(s, &desk[..], run, &mut elected, &mut moved, &mut counts);
-    if r == 0 {
-        keep(desk, &elected, &moved, &counts);
-    }
-    r
+    let counts = ask_of(s, &desk[..], run, &mut elected, &mut moved)?;
+    keep(desk, &elected, &moved, &counts);
+    Ok(())
 }
 
 fn tell(desk: &mut [u64], out: &mut [u8], run: &[u64]) {
@@ -93,15 +86,8 @@ fn tell(desk: &mut [u64], out: &mut [u8], run: &[u64]) {
 }
 
 // The run stays as it is.
-pub fn ask(s: &[u64], desk: &mut [u64], out: &mut [u8], run: &[u64]) {
-    if run.len() == 0 {
-        refused(out, desk, 16);
-        return;
-    }
-    let r = asked(s, desk, run);
-    if r != 0 {
-        refused(out, desk, r);
-        return;
-    }
+pub fn ask(s: &[u64], desk: &mut [u64], out: &mut [u8], run: &[u64]) -> Result<(), u64> {
+    asked(s, desk, some_prints(run)?)?;
     tell(desk, out, run);
+    Ok(())
 }

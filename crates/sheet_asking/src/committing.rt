@@ -5,7 +5,7 @@ use book::{ELECTED_WORDS, ElectedWords, MOST_MOVES, MOST_RECORDS, MOVED_WORDS, M
 use entry_groups::{read_elected, read_moved};
 use sheet_desk::{
     ASKED_ELECTED, ASKED_ELECTS, ASKED_LINE, ASKED_MOVED, ASKED_MOVES, LINE, MODE, PRINTS,
-    SETTINGS, TABLE, TRADE, refused, tell, tell_text,
+    SETTINGS, TABLE, accepted, filled, some_prints, tell, tell_text, traded,
 };
 use sheet_lines::names;
 use sheet_listing::left;
@@ -18,40 +18,26 @@ fn commit_of(
     run: &[u64],
     elected: &[ElectedWords],
     moved: &[MovedWords],
-) -> u64 {
+) -> Result<(), u64> {
     let mut counts = [0u64; 2];
-    yubtomiq_commit_segment(
+    accepted(yubtomiq_commit_segment(
         s,
         &four(rest(desk, SETTINGS)),
         &prints_of(desk, run),
         elected,
         moved,
         &mut counts,
-    )
+    ))
 }
 
-fn first_elected(list: &[ElectedWords], many: usize) -> &[ElectedWords] {
-    if many <= list.len() {
-        return &list[0..many];
-    }
-    list
-}
-
-fn first_moved(list: &[MovedWords], many: usize) -> &[MovedWords] {
-    if many <= list.len() {
-        return &list[0..many];
-    }
-    list
-}
-
-// Commits with the lists that are kept. Answers the number of a refusal, or 0.
-fn committed(s: &mut [u64], desk: &[u64], run: &[u64]) -> u64 {
+// Commits with the lists that are kept.
+fn committed(s: &mut [u64], desk: &[u64], run: &[u64]) -> Result<(), u64> {
     let mut elected = [[0u64; ELECTED_WORDS]; MOST_RECORDS];
     let mut moved = [[0u64; MOVED_WORDS]; MOST_MOVES];
     read_elected(&mut elected, rest(desk, ASKED_ELECTED));
     read_moved(&mut moved, rest(desk, ASKED_MOVED));
-    let e = first_elected(&elected, word(desk, ASKED_ELECTS) as usize);
-    let m = first_moved(&moved, word(desk, ASKED_MOVES) as usize);
+    let e = filled(&elected, word(desk, ASKED_ELECTS));
+    let m = filled(&moved, word(desk, ASKED_MOVES));
     commit_of(s, desk, run, e, m)
 }
 
@@ -90,31 +76,24 @@ fn tell_done(desk: &mut [u64], out: &mut [u8]) {
 fn over(desk: &mut [u64], price: u64) {
     set(desk, ASKED_LINE, 0);
     set(desk, PRINTS, 0);
-    set(desk, TRADE, 1);
-    set(desk, TRADE + 1, price);
+    traded(desk, price);
 }
 
-fn commit_asked(s: &mut [u64], desk: &mut [u64], out: &mut [u8], run: &[u64]) {
+fn commit_asked(s: &mut [u64], desk: &mut [u64], out: &mut [u8], run: &[u64]) -> Result<(), u64> {
     read_back(desk, out);
-    let r = committed(s, &desk[..], run);
-    if r != 0 {
-        refused(out, desk, r);
-        return;
-    }
+    committed(s, &desk[..], run)?;
     tell_done(desk, out);
     left(&s[..], desk, out);
     over(desk, last(run));
+    Ok(())
 }
 
-pub fn commit(s: &mut [u64], desk: &mut [u64], out: &mut [u8], run: &[u64]) {
-    if run.len() == 0 {
-        refused(out, desk, 16);
-        return;
-    }
+pub fn commit(s: &mut [u64], desk: &mut [u64], out: &mut [u8], run: &[u64]) -> Result<(), u64> {
+    let prints = some_prints(run)?;
     if word(&desk[..], ASKED_LINE) == 0 {
         let line = word(&desk[..], LINE);
         tell(out, desk, names::NOT_ASKED, &[line]);
-        return;
+        return Ok(());
     }
-    commit_asked(s, desk, out, run);
+    commit_asked(s, desk, out, prints)
 }

@@ -15,28 +15,18 @@ fn tell_move(desk: &mut [u64], out: &mut [u8], table: u64, m: &MovedWords) {
 }
 
 fn tell_moves(desk: &mut [u64], out: &mut [u8], table: u64) {
-    let many = word(&desk[..], ASKED_MOVES);
-    let mut i: usize = 0;
-    while i < MOST_MOVES {
-        if i as u64 >= many {
-            return;
-        }
+    let many = word(&desk[..], ASKED_MOVES) as usize;
+    for i in 0..many.min(MOST_MOVES) {
         let m = moved_at(rest(&desk[..], ASKED_MOVED), i);
         tell_move(desk, out, table, &m);
-        i += 1;
     }
 }
 
 fn tell_elections(desk: &mut [u64], out: &mut [u8], table: u64) {
-    let many = word(&desk[..], ASKED_ELECTS);
-    let mut i: usize = 0;
-    while i < MOST_RECORDS {
-        if i as u64 >= many {
-            return;
-        }
+    let many = word(&desk[..], ASKED_ELECTS) as usize;
+    for i in 0..many.min(MOST_RECORDS) {
         let e = elected_at(rest(&desk[..], ASKED_ELECTED), i);
         tell_elected(desk, out, names::ASKED_ELECTED, table, 0, i as u64 + 1, &e);
-        i += 1;
     }
 }
 

@@ -19,6 +19,7 @@ pub struct Read {
 }
 
 // The command that a line is; its values are put into a list, of which 16 places are enough for any command.
+#[tactic(auto, unfolding(crate::specs::Commands::command_of))]
 pub fn read_command(line: &[u8], values: &mut [u64]) -> Read
     ensures { Told (command_of line.now) values.old values.new result }
 {

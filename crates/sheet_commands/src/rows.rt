@@ -11,6 +11,7 @@ use text_lines::next_line;
 use text_words::{next_word, same};
 
 // Whether a word is the keyword of a row.
+#[tactic(auto, unfolding(crate::specs::Commands::keyword_of))]
 fn is_keyword(word: &[u8], row: &[u8]) -> bool
     ensures { result ≡ same_text word.now (keyword_of row.now) }
 {
@@ -21,6 +22,7 @@ fn is_keyword(word: &[u8], row: &[u8]) -> bool
 }
 
 // The command of a row, whose arguments begin at a place of the line.
+#[tactic(auto, unfolding(crate::specs::Commands::signature_of))]
 fn by_row(kind: u64, row: &[u8], line: &[u8], at: usize, values: &mut [u64]) -> Read
     requires { (at ≤ length line.now) × (length row.now ≤ 4096) }
     ensures { Told (command kind (arguments_from (signature_of row.now) line.now at)) values.old values.new result }
@@ -44,6 +46,7 @@ pub fn by_rows(table: &[u8], line: &[u8], start: usize, end: usize, values: &mut
 {
     let mut at: usize = 0;
     let mut kind: u64 = 1;
+    // By place: a row is two places of the table, and the next begins where `next_line` says.
     while at < table.len() {
         let cut = next_line(table, at);
         let stop = cut.end;

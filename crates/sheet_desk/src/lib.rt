@@ -96,7 +96,7 @@ pub const PICTURE: u64 = 2;
 fn flush(out: &[u8], at: usize)
     requires { at ≤ length out.now }
 {
-    io::write_all(1, &out[0..at]);
+    io::write_all(1, &out[..at]);
 }
 
 // Where the next line goes.
@@ -104,32 +104,37 @@ fn place(out: &[u8], desk: &[u64]) -> usize
     ensures { result ≤ length out.now }
 {
     let at = word(desk, OUT) as usize;
-    if at <= out.len() {
-        return at;
-    }
-    0
+    if at <= out.len() { at } else { 0 }
 }
 
-// Writes a line at the buffer's beginning.
-fn say_first(out: &mut [u8], desk: &mut [u64], row: u64, values: &[u64]) {
-    let next = put_line(out, 0, row, values);
-    if next <= out.len() {
+// Writes a line at a place, and answers whether it had room.
+fn put(out: &mut [u8], desk: &mut [u64], at: usize, row: u64, values: &[u64]) -> bool
+    requires { at ≤ length out.old }
+{
+    let next = put_line(out, at, row, values);
+    let fits = next <= out.len();
+    if fits {
         set(desk, OUT, next as u64);
-        return;
     }
-    set(desk, OUT, 0);
+    fits
 }
 
 // Writes a line; where it has no room, the buffer is emptied first.
 pub fn say(out: &mut [u8], desk: &mut [u64], row: u64, values: &[u64]) {
     let at = place(&out[..], &desk[..]);
-    let next = put_line(out, at, row, values);
-    if next <= out.len() {
-        set(desk, OUT, next as u64);
+    if put(out, desk, at, row, values) {
         return;
     }
     flush(&out[..], at);
-    say_first(out, desk, row, values);
+    if !put(out, desk, 0, row, values) {
+        set(desk, OUT, 0);
+    }
+}
+
+// The last trade is at a price.
+pub fn traded(desk: &mut [u64], price: u64) {
+    set(desk, TRADE, 1);
+    set(desk, TRADE + 1, price);
 }
 
 // Writes what stands in the buffer.
@@ -140,27 +145,49 @@ pub fn end(out: &[u8], desk: &[u64]) {
 
 // A line where text, and one where a table is asked for; a picture has neither.
 pub fn tell(out: &mut [u8], desk: &mut [u64], row: u64, values: &[u64]) {
-    if word(&desk[..], MODE) == PICTURE {
-        return;
+    if word(&desk[..], MODE) != PICTURE {
+        say(out, desk, row, values);
     }
-    say(out, desk, row, values);
+}
+
+// A line where one of the three alone is asked for.
+fn tell_in(mode: u64, out: &mut [u8], desk: &mut [u64], row: u64, values: &[u64]) {
+    if word(&desk[..], MODE) == mode {
+        say(out, desk, row, values);
+    }
 }
 
 pub fn tell_text(out: &mut [u8], desk: &mut [u64], row: u64, values: &[u64]) {
-    if word(&desk[..], MODE) == TEXT {
-        say(out, desk, row, values);
-    }
+    tell_in(TEXT, out, desk, row, values);
 }
 
 pub fn tell_table(out: &mut [u8], desk: &mut [u64], row: u64, values: &[u64]) {
-    if word(&desk[..], MODE) == TABLE {
-        say(out, desk, row, values);
-    }
+    tell_in(TABLE, out, desk, row, values);
 }
 
 pub fn tell_picture(out: &mut [u8], desk: &mut [u64], row: u64, values: &[u64]) {
-    if word(&desk[..], MODE) == PICTURE {
-        say(out, desk, row, values);
+    tell_in(PICTURE, out, desk, row, values);
+}
+
+// What a call of the library for hosts answers as its number: 0, or that of the refusal.
+pub fn accepted(number: u64) -> Result<(), u64> {
+    if number == 0 { Ok(()) } else { Err(number) }
+}
+
+// The first entries of a list, as many as a call answers that it put there; all where there are fewer.
+pub fn filled<T>(list: &[T], many: u64) -> &[T] {
+    list.get(..many as usize).unwrap_or(list)
+}
+
+// The refusal of a run without prints, or with too many.
+pub const PRICE_COUNT: u64 = 16;
+
+// A run, refused where it has no prints.
+pub fn some_prints(run: &[u64]) -> Result<&[u64], u64> {
+    if run.is_empty() {
+        Err(PRICE_COUNT)
+    } else {
+        Ok(run)
     }
 }
 

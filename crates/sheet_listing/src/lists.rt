@@ -1,7 +1,7 @@
 // Stops listed, those of a holder cancelled, and totals.
 use crate::words::{is_held, lined};
 use book::{DATA_WORDS, MOST_RECORDS, StopWords};
-use sheet_desk::{LINE, refused, tell_table, tell_text};
+use sheet_desk::{LINE, accepted, filled, tell_table, tell_text};
 use sheet_lines::names;
 use word_groups::word;
 use yubtomiq::{yubtomiq_collect, yubtomiq_mass_cancel, yubtomiq_pending_stop_quantity};
@@ -13,37 +13,41 @@ fn of_holder(h: &[u64]) -> [u64; 5] {
     [0, word(h, 0), word(h, 1), word(h, 2), word(h, 3)]
 }
 
-fn collect_of(
+// Each call by itself: what it lists.
+
+fn collect_of<'a>(
     s: &[u64],
     selector: &[u64; 5],
-    list: &mut [StopWords],
-    answer: &mut [u64; 1],
-) -> u64 {
-    yubtomiq_collect(s, selector, list, answer)
-}
-
-// Lists every stop of a store, and answers how many there are.
-pub fn collect_all(s: &[u64], list: &mut [StopWords]) -> u64 {
+    list: &'a mut [StopWords],
+) -> Result<&'a [StopWords], u64> {
     let mut answer = [0u64; 1];
-    collect_of(s, &EVERY, list, &mut answer);
-    answer[0]
+    accepted(yubtomiq_collect(s, selector, list, &mut answer))?;
+    Ok(filled(list, answer[0]))
 }
 
-fn mass_cancel_of(
+// Lists every stop of a store.
+pub fn collect_all<'a>(s: &[u64], list: &'a mut [StopWords]) -> &'a [StopWords] {
+    collect_of(s, &EVERY, list).unwrap_or(&[])
+}
+
+fn mass_cancel_of<'a>(
     s: &mut [u64],
     selector: &[u64; 5],
-    list: &mut [StopWords],
-    answer: &mut [u64; 1],
-) -> u64 {
-    yubtomiq_mass_cancel(s, selector, list, answer)
+    list: &'a mut [StopWords],
+) -> Result<&'a [StopWords], u64> {
+    let mut answer = [0u64; 1];
+    accepted(yubtomiq_mass_cancel(s, selector, list, &mut answer))?;
+    Ok(filled(list, answer[0]))
 }
 
-fn totals_of(s: &[u64], answer: &mut [u64; 4]) -> u64 {
-    yubtomiq_pending_stop_quantity(s, answer)
+fn totals_of(s: &[u64]) -> Result<[u64; 4], u64> {
+    let mut answer = [0u64; 4];
+    accepted(yubtomiq_pending_stop_quantity(s, &mut answer))?;
+    Ok(answer)
 }
 
 fn stop_row(stop: &StopWords) -> u64 {
-    if is_held(stop[9], stop[10], stop[11], stop[12]) {
+    if is_held(&stop[9..]) {
         return names::STOP_HOLDER;
     }
     names::STOP
@@ -56,78 +60,78 @@ fn tell_stop(desk: &mut [u64], out: &mut [u8], table: u64, stop: &StopWords) {
     tell_table(out, desk, table, &lined(line, stop));
 }
 
-fn tell_stops(desk: &mut [u64], out: &mut [u8], table: u64, list: &[StopWords], count: u64) {
-    let mut i: usize = 0;
-    while i < list.len() {
-        if i as u64 >= count {
-            return;
-        }
-        let stop = list[i];
-        tell_stop(desk, out, table, &stop);
-        i += 1;
+fn tell_stops(desk: &mut [u64], out: &mut [u8], table: u64, stops: &[StopWords]) {
+    for stop in stops {
+        tell_stop(desk, out, table, stop);
     }
 }
 
-// The stops of a selector behind a heading, a row that takes the line, their number, and the words of a holder.
-fn listed(s: &[u64], desk: &mut [u64], out: &mut [u8], selector: &[u64; 5], row: u64, table: u64) {
+// The listed stops of a selector behind a heading, a row that takes the line, their number, and the words of a holder.
+fn tell_listed(
+    desk: &mut [u64],
+    out: &mut [u8],
+    selector: &[u64; 5],
+    row: u64,
+    table: u64,
+    stops: &[StopWords],
+) {
     let line = word(&desk[..], LINE);
-    let mut list = [[0u64; DATA_WORDS]; MOST_RECORDS];
-    let mut answer = [0u64; 1];
-    let r = collect_of(s, selector, &mut list, &mut answer);
-    if r != 0 {
-        refused(out, desk, r);
-        return;
-    }
-    let many = answer[0];
     tell_text(
         out,
         desk,
         row,
         &[
             line,
-            many,
+            stops.len() as u64,
             selector[1],
             selector[2],
             selector[3],
             selector[4],
         ],
     );
-    tell_stops(desk, out, table, &list, many);
+    tell_stops(desk, out, table, stops);
 }
 
-pub fn list(s: &[u64], desk: &mut [u64], out: &mut [u8]) {
-    listed(s, desk, out, &EVERY, names::LIST, names::TABLE_LISTED);
-}
-
-pub fn list_holder(s: &[u64], desk: &mut [u64], out: &mut [u8], holder: &[u64]) {
-    listed(
-        s,
-        desk,
-        out,
-        &of_holder(holder),
-        names::LIST_HOLDER,
-        names::TABLE_LISTED,
-    );
-}
-
-pub fn cancel_holder(s: &mut [u64], desk: &mut [u64], out: &mut [u8], holder: &[u64]) {
-    let line = word(&desk[..], LINE);
+// The stops of a selector.
+fn listed(
+    s: &[u64],
+    desk: &mut [u64],
+    out: &mut [u8],
+    selector: &[u64; 5],
+    row: u64,
+) -> Result<(), u64> {
     let mut list = [[0u64; DATA_WORDS]; MOST_RECORDS];
-    let mut answer = [0u64; 1];
+    let stops = collect_of(s, selector, &mut list)?;
+    tell_listed(desk, out, selector, row, names::TABLE_LISTED, stops);
+    Ok(())
+}
+
+pub fn list(s: &[u64], desk: &mut [u64], out: &mut [u8]) -> Result<(), u64> {
+    listed(s, desk, out, &EVERY, names::LIST)
+}
+
+pub fn list_holder(s: &[u64], desk: &mut [u64], out: &mut [u8], holder: &[u64]) -> Result<(), u64> {
+    listed(s, desk, out, &of_holder(holder), names::LIST_HOLDER)
+}
+
+pub fn cancel_holder(
+    s: &mut [u64],
+    desk: &mut [u64],
+    out: &mut [u8],
+    holder: &[u64],
+) -> Result<(), u64> {
+    let mut list = [[0u64; DATA_WORDS]; MOST_RECORDS];
     let h = of_holder(holder);
-    let r = mass_cancel_of(s, &h, &mut list, &mut answer);
-    if r != 0 {
-        refused(out, desk, r);
-        return;
-    }
-    let many = answer[0];
-    tell_text(
-        out,
+    let stops = mass_cancel_of(s, &h, &mut list)?;
+    tell_listed(
         desk,
+        out,
+        &h,
         names::CANCELLED_HOLDER,
-        &[line, many, h[1], h[2], h[3], h[4]],
+        names::TABLE_CANCELLED,
+        stops,
     );
-    tell_stops(desk, out, names::TABLE_CANCELLED, &list, many);
+    Ok(())
 }
 
 fn table_totals(desk: &mut [u64], out: &mut [u8], t: &[u64; 4]) {
@@ -137,30 +141,25 @@ fn table_totals(desk: &mut [u64], out: &mut [u8], t: &[u64; 4]) {
 }
 
 // The pending quantity of each side.
-pub fn totals(s: &[u64], desk: &mut [u64], out: &mut [u8]) {
+pub fn totals(s: &[u64], desk: &mut [u64], out: &mut [u8]) -> Result<(), u64> {
     let line = word(&desk[..], LINE);
-    let mut t = [0u64; 4];
-    let r = totals_of(s, &mut t);
-    if r != 0 {
-        refused(out, desk, r);
-        return;
-    }
+    let t = totals_of(s)?;
     tell_text(out, desk, names::TOTALS, &[line, t[0], t[1], t[2], t[3]]);
     table_totals(desk, out, &t);
+    Ok(())
 }
 
 fn totals_left(s: &[u64], desk: &mut [u64], out: &mut [u8]) {
-    let mut t = [0u64; 4];
-    totals_of(s, &mut t);
-    tell_text(out, desk, names::TOTALS_LEFT, &[t[0], t[1], t[2], t[3]]);
+    let t = totals_of(s).unwrap_or([0; 4]);
+    tell_text(out, desk, names::TOTALS_LEFT, &t);
     table_totals(desk, out, &t);
 }
 
 fn stops_left(s: &[u64], desk: &mut [u64], out: &mut [u8]) {
     let mut list = [[0u64; DATA_WORDS]; MOST_RECORDS];
-    let many = collect_all(s, &mut list);
-    tell_text(out, desk, names::LEFT, &[many]);
-    tell_stops(desk, out, names::TABLE_LEFT, &list, many);
+    let stops = collect_all(s, &mut list);
+    tell_text(out, desk, names::LEFT, &[stops.len() as u64]);
+    tell_stops(desk, out, names::TABLE_LEFT, stops);
 }
 
 // What a run leaves: the stops and the totals.

@@ -1,13 +1,19 @@
 // Trial prices: which of them elect each stop.
 use crate::lists::collect_all;
 use book::{DATA_WORDS, LADDER_WORDS, LadderWords, MOST_RECORDS, StopWords};
-use sheet_desk::{LINE, refused, tell};
+use sheet_desk::{LINE, accepted, filled, tell};
 use sheet_lines::names;
 use word_groups::word;
 use yubtomiq::yubtomiq_ladder;
 
-fn ladder_of(s: &[u64], prices: &[u64], list: &mut [LadderWords], answer: &mut [u64; 1]) -> u64 {
-    yubtomiq_ladder(s, prices, list, answer)
+fn ladder_of<'a>(
+    s: &[u64],
+    prices: &[u64],
+    list: &'a mut [LadderWords],
+) -> Result<&'a [LadderWords], u64> {
+    let mut answer = [0u64; 1];
+    accepted(yubtomiq_ladder(s, prices, list, &mut answer))?;
+    Ok(filled(list, answer[0]))
 }
 
 fn tell_price(desk: &mut [u64], out: &mut [u8], bit: u64, price: u64) {
@@ -19,16 +25,14 @@ fn tell_price(desk: &mut [u64], out: &mut [u8], bit: u64, price: u64) {
 // The prices whose bits are set, the lowest bit for the first price.
 fn tell_prices(desk: &mut [u64], out: &mut [u8], prices: &[u64], bits: u64) {
     let mut left = bits;
-    let mut i: usize = 0;
-    while i < prices.len() {
-        tell_price(desk, out, left % 2, prices[i]);
-        left = left / 2;
-        i += 1;
+    for &price in prices {
+        tell_price(desk, out, left % 2, price);
+        left /= 2;
     }
 }
 
 // A stop with its entry: how many of the prices elect it, and which.
-fn tell_entry(desk: &mut [u64], out: &mut [u8], prices: &[u64], stop: StopWords, e: LadderWords) {
+fn tell_entry(desk: &mut [u64], out: &mut [u8], prices: &[u64], stop: &StopWords, e: &LadderWords) {
     tell(
         out,
         desk,
@@ -38,51 +42,31 @@ fn tell_entry(desk: &mut [u64], out: &mut [u8], prices: &[u64], stop: StopWords,
     tell_prices(desk, out, prices, e[0]);
 }
 
-fn tell_entries(
-    desk: &mut [u64],
-    out: &mut [u8],
-    prices: &[u64],
-    stops: &[StopWords],
-    list: &[LadderWords],
-    count: u64,
-) {
-    let mut i: usize = 0;
-    while i < list.len() {
-        if i as u64 >= count {
-            return;
-        }
-        if i >= stops.len() {
-            return;
-        }
-        tell_entry(desk, out, prices, stops[i], list[i]);
-        i += 1;
-    }
-}
-
 // The entries stand by rising sequence, as the stops that are collected do.
 fn tell_ladder(
     s: &[u64],
     desk: &mut [u64],
     out: &mut [u8],
     prices: &[u64],
-    list: &[LadderWords],
-    count: u64,
+    entries: &[LadderWords],
 ) {
-    let mut stops = [[0u64; DATA_WORDS]; MOST_RECORDS];
-    collect_all(s, &mut stops);
-    tell_entries(desk, out, prices, &stops, list, count);
+    let mut list = [[0u64; DATA_WORDS]; MOST_RECORDS];
+    let stops = collect_all(s, &mut list);
+    for (stop, e) in stops.iter().zip(entries) {
+        tell_entry(desk, out, prices, stop, e);
+    }
 }
 
-pub fn ladder(s: &[u64], desk: &mut [u64], out: &mut [u8], prices: &[u64]) {
+pub fn ladder(s: &[u64], desk: &mut [u64], out: &mut [u8], prices: &[u64]) -> Result<(), u64> {
     let line = word(&desk[..], LINE);
     let mut list = [[0u64; LADDER_WORDS]; MOST_RECORDS];
-    let mut answer = [0u64; 1];
-    let r = ladder_of(s, prices, &mut list, &mut answer);
-    if r != 0 {
-        refused(out, desk, r);
-        return;
-    }
-    let many = answer[0];
-    tell(out, desk, names::LADDER, &[line, prices.len() as u64, many]);
-    tell_ladder(s, desk, out, prices, &list, many);
+    let entries = ladder_of(s, prices, &mut list)?;
+    tell(
+        out,
+        desk,
+        names::LADDER,
+        &[line, prices.len() as u64, entries.len() as u64],
+    );
+    tell_ladder(s, desk, out, prices, entries);
+    Ok(())
 }

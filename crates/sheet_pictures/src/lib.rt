@@ -7,4 +7,4 @@ mod places;
 mod steps;
 
 pub use panel::{begin, finish, head, tail};
-pub use steps::{MARKS, elected, moved, remaining};
+pub use steps::{Mark, NO_MARK, elected, moved, remaining};

@@ -1,6 +1,6 @@
 // A panel: its frame, the line of prices, and the stops' labels.
-use crate::places::{BOTTOM, PANEL_PIXELS, TOP, across, down};
-use crate::steps::start;
+use crate::places::{BOTTOM, PANEL_PIXELS, TOP, across, beyond, down};
+use crate::steps::{Mark, start};
 use book::StopWords;
 use sheet_desk::{ACROSS, CIRCLE, HIGH, LINE, LOW, PANEL, say};
 use sheet_lines::names;
@@ -10,6 +10,9 @@ use word_groups::{set, word};
 const BAND: u64 = 110;
 
 const BANDS: usize = 44;
+
+// Text stands so far below the line that it is about.
+const TEXT_BELOW: u64 = 40;
 
 // So many lines across a panel, and so many down, besides its first.
 const LINES: u64 = 4;
@@ -35,44 +38,22 @@ pub fn tail(desk: &mut [u64], out: &mut [u8]) {
 
 // Makes the range reach a price.
 fn take_in(desk: &mut [u64], price: u64) {
-    if price < word(&desk[..], LOW) {
-        set(desk, LOW, price);
-        return;
-    }
-    if price > word(&desk[..], HIGH) {
-        set(desk, HIGH, price);
-    }
+    let low = word(&desk[..], LOW);
+    let high = word(&desk[..], HIGH);
+    set(desk, LOW, low.min(price));
+    set(desk, HIGH, high.max(price));
 }
 
 // The lowest and the highest of the prices and the stops. A stop that trails stays between them.
-fn range(desk: &mut [u64], prints: &[u64], stops: &[StopWords], count: u64) {
+fn range(desk: &mut [u64], prints: &[u64], stops: &[StopWords]) {
     set(desk, LOW, word(prints, 0));
     set(desk, HIGH, word(prints, 0));
-    let mut i: usize = 0;
-    while i < prints.len() {
-        take_in(desk, prints[i]);
-        i += 1;
+    for &price in prints {
+        take_in(desk, price);
     }
-    range_stops(desk, stops, count);
-}
-
-fn range_stops(desk: &mut [u64], stops: &[StopWords], count: u64) {
-    let mut i: usize = 0;
-    while i < stops.len() {
-        if i as u64 >= count {
-            return;
-        }
-        let s = stops[i];
-        take_in(desk, s[4]);
-        i += 1;
+    for stop in stops {
+        take_in(desk, stop[4]);
     }
-}
-
-fn below(y: u64) -> u64 {
-    if y > 0x8000 {
-        return y;
-    }
-    y + 40
 }
 
 // A quarter of the way between two numbers, k of them; never beyond the second.
@@ -93,15 +74,18 @@ fn quarter(low: u64, high: u64, k: u64) -> u64 {
 fn grid(desk: &mut [u64], out: &mut [u8], n: u64) {
     let low = word(&desk[..], LOW);
     let high = word(&desk[..], HIGH);
-    let mut k: u64 = 0;
-    while k <= LINES {
+    for k in 0..=LINES {
         let price = quarter(low, high, k);
         let y = down(price, low, high);
-        say(out, desk, names::PICTURE_GRID, &[y, below(y), price]);
+        say(
+            out,
+            desk,
+            names::PICTURE_GRID,
+            &[y, beyond(y, TEXT_BELOW), price],
+        );
         let number = quarter(1, n, k);
         let x = across(number, n);
         say(out, desk, names::PICTURE_UNDER, &[x, x, number]);
-        k += 1;
     }
 }
 
@@ -111,48 +95,29 @@ fn line(desk: &mut [u64], out: &mut [u8], prints: &[u64]) {
     let high = word(&desk[..], HIGH);
     let n = prints.len() as u64;
     say(out, desk, names::PICTURE_LINE, &[0]);
-    let mut i: usize = 0;
-    while i < prints.len() {
-        let x = across(i as u64 + 1, n);
-        let y = down(prints[i], low, high);
+    for (number, &price) in (1..=n).zip(prints) {
+        let x = across(number, n);
+        let y = down(price, low, high);
         say(out, desk, names::PICTURE_POINT, &[x, y]);
-        i += 1;
     }
     say(out, desk, names::PICTURE_LINE_END, &[0]);
 }
 
-fn is_free(bands: &[u64; BANDS], p: usize) -> bool {
-    if p < BANDS {
-        return bands[p] == 0;
-    }
-    false
-}
-
-// The free band that is nearest to one; none: as many as there are.
-fn nearest(bands: &[u64; BANDS], at: usize) -> usize {
-    if at >= BANDS {
-        return BANDS;
-    }
-    let mut d: usize = 0;
-    while d < BANDS {
-        if is_free(bands, at + d) {
-            return at + d;
-        }
-        if d <= at {
-            if is_free(bands, at - d) {
-                return at - d;
-            }
-        }
-        d += 1;
-    }
-    BANDS
+// Takes the free band that is nearest to one, of two as near the lower in the picture; answers none if all are taken.
+fn take_nearest(taken: &mut [bool; BANDS], at: usize) -> Option<usize> {
+    let band = taken
+        .iter()
+        .enumerate()
+        .rev()
+        .filter(|(_, is_taken)| !**is_taken)
+        .map(|(band, _)| band)
+        .min_by_key(|band| band.abs_diff(at))?;
+    *taken.get_mut(band)? = true;
+    Some(band)
 }
 
 fn band_of(y: u64) -> usize {
-    if y < TOP {
-        return 0;
-    }
-    if y > BOTTOM {
+    if y < TOP || y > BOTTOM {
         return 0;
     }
     ((y - TOP) / BAND) as usize
@@ -173,32 +138,25 @@ fn band_place(band: usize) -> u64 {
 }
 
 // The identity of a stop beside where its line begins, in the nearest band that is free.
-fn label(desk: &mut [u64], out: &mut [u8], stop: StopWords, bands: &mut [u64; BANDS]) {
+fn label(desk: &mut [u64], out: &mut [u8], stop: &StopWords, taken: &mut [bool; BANDS]) {
     let y = down(stop[4], word(&desk[..], LOW), word(&desk[..], HIGH));
-    let band = nearest(bands, band_of(y));
-    if band >= BANDS {
+    let Some(band) = take_nearest(taken, band_of(y)) else {
         return;
-    }
-    bands[band] = 1;
+    };
     let at = band_place(band);
     say(
         out,
         desk,
         label_row(stop[0]),
-        &[stop[3], below(at), stop[0], stop[1], stop[2]],
+        &[stop[3], beyond(at, TEXT_BELOW), stop[0], stop[1], stop[2]],
     );
     say(out, desk, names::PICTURE_LEADER, &[stop[3], at, y]);
 }
 
-fn labels(desk: &mut [u64], out: &mut [u8], stops: &[StopWords], count: u64) {
-    let mut bands = [0u64; BANDS];
-    let mut i: usize = 0;
-    while i < stops.len() {
-        if i as u64 >= count {
-            return;
-        }
-        label(desk, out, stops[i], &mut bands);
-        i += 1;
+fn labels(desk: &mut [u64], out: &mut [u8], stops: &[StopWords]) {
+    let mut taken = [false; BANDS];
+    for stop in stops {
+        label(desk, out, stop, &mut taken);
     }
 }
 
@@ -210,10 +168,10 @@ fn next_panel(desk: &mut [u64]) -> u64 {
     at
 }
 
-fn frame(desk: &mut [u64], out: &mut [u8], prints: &[u64], stops: &[StopWords], count: u64) {
+fn frame(desk: &mut [u64], out: &mut [u8], prints: &[u64], stops: &[StopWords]) {
     grid(desk, out, prints.len() as u64);
     line(desk, out, prints);
-    labels(desk, out, stops, count);
+    labels(desk, out, stops);
 }
 
 // The panel of a walk over these prints with these stops.
@@ -222,18 +180,22 @@ pub fn begin(
     out: &mut [u8],
     prints: &[u64],
     stops: &[StopWords],
-    count: u64,
-    marks: &mut [u64],
+    marks: &mut [Mark],
 ) {
     let n = prints.len() as u64;
     let number = word(&desk[..], LINE);
     set(desk, ACROSS, n);
     set(desk, CIRCLE, 0);
     start(stops, marks);
-    range(desk, prints, stops, count);
+    range(desk, prints, stops);
     let at = next_panel(desk);
-    say(out, desk, names::PICTURE_PANEL, &[at, number, n, count]);
-    frame(desk, out, prints, stops, count);
+    say(
+        out,
+        desk,
+        names::PICTURE_PANEL,
+        &[at, number, n, stops.len() as u64],
+    );
+    frame(desk, out, prints, stops);
 }
 
 pub fn finish(desk: &mut [u64], out: &mut [u8]) {

@@ -1,4 +1,5 @@
 // Where a print and a price stand in a panel.
+ghost use Rattle.std.specs.Prelude.{◌≤◌};
 
 // The panel's left and right end, its top and bottom, in units; how high a panel is, in pixels.
 pub const LEFT: u64 = 1600;
@@ -16,33 +17,19 @@ const MIDDLE: u64 = 2800;
 // Larger than every part and every place.
 const MUCH: u64 = 0x1_0000_0000_0000;
 
-// A part of a whole, in units of the panel's width, and of its height; both are small enough to be multiplied.
-
-fn of_width(part: u64, whole: u64) -> u64 {
+// A part of a whole, in units of the panel's width or of its height; the part is small enough to be multiplied.
+fn part_of(part: u64, whole: u64, units: u64) -> u64
+    requires { units ≤ 65535 }
+{
     if part > MUCH {
         return 0;
     }
-    if whole == 0 {
-        return 0;
-    }
-    part * (RIGHT - LEFT) / whole
+    (part * units).checked_div(whole).unwrap_or(0)
 }
 
-fn of_height(part: u64, whole: u64) -> u64 {
-    if part > MUCH {
-        return 0;
-    }
-    if whole == 0 {
-        return 0;
-    }
-    part * (BOTTOM - TOP) / whole
-}
-
-fn beyond(from: u64, by: u64) -> u64 {
-    if by > MUCH {
-        return from;
-    }
-    if from > MUCH {
+// A place so much further on; much too far, the place itself.
+pub fn beyond(from: u64, by: u64) -> u64 {
+    if by > MUCH || from > MUCH {
         return from;
     }
     from + by
@@ -50,13 +37,10 @@ fn beyond(from: u64, by: u64) -> u64 {
 
 // Where a print stands, by its number among n.
 pub fn across(number: u64, n: u64) -> u64 {
-    if n < 2 {
+    if n < 2 || number == 0 {
         return LEFT;
     }
-    if number == 0 {
-        return LEFT;
-    }
-    beyond(LEFT, of_width(number - 1, n - 1))
+    beyond(LEFT, part_of(number - 1, n - 1, RIGHT - LEFT))
 }
 
 // Where a price stands between the lowest and the highest. Large ranges lose their low bits first.
@@ -71,5 +55,8 @@ pub fn down(price: u64, low: u64, high: u64) -> u64 {
         return BOTTOM;
     }
     let unit = (high - low) / 0x100_0000_0000 + 1;
-    beyond(TOP, of_height((high - price) / unit, (high - low) / unit))
+    beyond(
+        TOP,
+        part_of((high - price) / unit, (high - low) / unit, BOTTOM - TOP),
+    )
 }

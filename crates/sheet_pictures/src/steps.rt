@@ -1,11 +1,25 @@
 // The step lines of stops, and the circles of those elected. A stop is known by its place in the list that was collected
-// before the walk; a picture's marks say for each place how far its line is drawn, behind all of these at what price, and
-// behind these what its stop is: a move that is too close to the last to be drawn changes that alone.
-use crate::places::{LEFT, RIGHT, across, down};
-use book::{MOST_RECORDS, StopWords};
+// before the walk, and so is its mark; a move that is too close to the last to be drawn changes the mark's stop alone.
+use crate::places::{LEFT, RIGHT, across, beyond, down};
+use book::StopWords;
 use sheet_desk::{ACROSS, CIRCLE, HIGH, LOW, NUMBER, say};
 use sheet_lines::names;
 use word_groups::{set, word};
+
+// How far the line of a stop is drawn, at what price it is drawn there, and what the stop is.
+#[derive(Clone, Copy)]
+pub struct Mark {
+    pub across: u64,
+    pub price: u64,
+    pub stop: u64,
+}
+
+// The mark of a stop whose line has ended, or has not begun.
+pub const NO_MARK: Mark = Mark {
+    across: 0,
+    price: 0,
+    stop: 0,
+};
 
 // Moves closer together than this are drawn as one: two pixels.
 const CLOSE: u64 = 20;
@@ -13,7 +27,8 @@ const CLOSE: u64 = 20;
 // Circles closer together than this stand beside each other.
 const CIRCLE_WIDTH: u64 = 150;
 
-pub const MARKS: usize = 3 * MOST_RECORDS;
+// The number of a turn stands so far below its circle's middle.
+const TURN_BELOW: u64 = 28;
 
 fn height(desk: &[u64], price: u64) -> u64 {
     down(price, word(desk, LOW), word(desk, HIGH))
@@ -24,27 +39,15 @@ fn here(desk: &[u64]) -> u64 {
     across(word(desk, NUMBER), word(desk, ACROSS))
 }
 
-// Where the marks of a place stand: the price at which its line is drawn, and its stop.
-
-fn second(at: usize) -> usize {
-    if at < MOST_RECORDS {
-        return at + MOST_RECORDS;
-    }
-    at
+// The mark at a place; none beyond the last.
+fn mark_at(marks: &[Mark], at: usize) -> Mark {
+    marks.get(at).copied().unwrap_or(NO_MARK)
 }
 
-fn third(at: usize) -> usize {
-    if at < MOST_RECORDS {
-        return at + 2 * MOST_RECORDS;
+fn set_mark(marks: &mut [Mark], at: usize, mark: Mark) {
+    if let Some(place) = marks.get_mut(at) {
+        *place = mark;
     }
-    at
-}
-
-// Marks that the line of a stop is drawn so far, at a price.
-fn mark(marks: &mut [u64], at: usize, x: u64, price: u64) {
-    set(marks, at, x);
-    set(marks, second(at), price);
-    set(marks, third(at), price);
 }
 
 // Draws on from where the line of a stop ends: to its stop, to a place across, and then to a price.
@@ -55,26 +58,28 @@ fn draw(
     at: usize,
     x: u64,
     price: u64,
-    marks: &mut [u64],
+    marks: &mut [Mark],
 ) {
-    let y = height(&desk[..], word(&marks[..], second(at)));
-    let level = height(&desk[..], word(&marks[..], third(at)));
+    let mark = mark_at(&marks[..], at);
+    let y = height(&desk[..], mark.price);
+    let level = height(&desk[..], mark.stop);
     let to = height(&desk[..], price);
-    let from = word(&marks[..], at);
     say(
         out,
         desk,
         names::PICTURE_STEP,
-        &[side, from, y, level, x, to],
+        &[side, mark.across, y, level, x, to],
     );
-    mark(marks, at, x, price);
+    let drawn = Mark {
+        across: x,
+        price,
+        stop: price,
+    };
+    set_mark(marks, at, drawn);
 }
 
 fn is_close(a: u64, b: u64) -> bool {
-    if b < a {
-        return false;
-    }
-    b - a < CLOSE
+    b >= a && b - a < CLOSE
 }
 
 // A stop moves at a print.
@@ -84,21 +89,26 @@ pub fn moved(
     side: u64,
     at: usize,
     price: u64,
-    marks: &mut [u64],
+    marks: &mut [Mark],
 ) {
     let x = here(&desk[..]);
-    if is_close(word(&marks[..], at), x) {
-        set(marks, third(at), price);
+    let mark = mark_at(&marks[..], at);
+    if is_close(mark.across, x) {
+        set_mark(
+            marks,
+            at,
+            Mark {
+                stop: price,
+                ..mark
+            },
+        );
         return;
     }
     draw(desk, out, side, at, x, price, marks);
 }
 
 fn is_near(a: u64, b: u64) -> bool {
-    if a < b {
-        return b - a < CIRCLE_WIDTH;
-    }
-    a - b < CIRCLE_WIDTH
+    a.abs_diff(b) < CIRCLE_WIDTH
 }
 
 // The middle of a panel.
@@ -108,20 +118,14 @@ const MIDDLE: u64 = (LEFT + RIGHT) / 2;
 // left one.
 fn beside(x: u64, last: u64) -> u64 {
     if x <= MIDDLE {
-        return std::num::wrapping_add_u64(last, CIRCLE_WIDTH);
+        return last.wrapping_add(CIRCLE_WIDTH);
     }
-    if last < CIRCLE_WIDTH {
-        return last;
-    }
-    last - CIRCLE_WIDTH
+    last.checked_sub(CIRCLE_WIDTH).unwrap_or(last)
 }
 
 // Whether a circle would cover the ones before it: it is near the first of them across, and near the last one down.
 fn joins(desk: &[u64], x: u64, y: u64) -> bool {
-    if is_near(word(desk, CIRCLE), x) {
-        return is_near(word(desk, CIRCLE + 1), y);
-    }
-    false
+    is_near(word(desk, CIRCLE), x) && is_near(word(desk, CIRCLE + 1), y)
 }
 
 // Keeps where a circle went: of those beside each other the first, and of the last how far down and how far across.
@@ -143,13 +147,6 @@ fn circle_place(desk: &mut [u64], x: u64, y: u64) -> u64 {
     x
 }
 
-fn below(y: u64) -> u64 {
-    if y > 0x8000 {
-        return y;
-    }
-    y + 28
-}
-
 fn circle(desk: &mut [u64], out: &mut [u8], side: u64, x: u64, price: u64, turn: u64) {
     let y = height(&desk[..], price);
     let c = circle_place(desk, x, y);
@@ -157,7 +154,7 @@ fn circle(desk: &mut [u64], out: &mut [u8], side: u64, x: u64, price: u64, turn:
         out,
         desk,
         names::PICTURE_ELECTED,
-        &[side, c, y, c, below(y), turn],
+        &[side, c, y, c, beyond(y, TURN_BELOW), turn],
     );
 }
 
@@ -169,45 +166,34 @@ pub fn elected(
     at: usize,
     price: u64,
     turn: u64,
-    marks: &mut [u64],
+    marks: &mut [Mark],
 ) {
     let x = here(&desk[..]);
     draw(desk, out, side, at, x, price, marks);
-    set(marks, at, 0);
+    set_mark(marks, at, NO_MARK);
     circle(desk, out, side, x, price, turn);
 }
 
 // A stop that is left is drawn to the end.
-fn remain(desk: &mut [u64], out: &mut [u8], at: usize, stop: StopWords, marks: &mut [u64]) {
-    if word(&marks[..], at) == 0 {
-        return;
+fn remain(desk: &mut [u64], out: &mut [u8], at: usize, stop: &StopWords, marks: &mut [Mark]) {
+    if mark_at(&marks[..], at).across != 0 {
+        draw(desk, out, stop[3], at, RIGHT, stop[4], marks);
     }
-    draw(desk, out, stop[3], at, RIGHT, stop[4], marks);
 }
 
-pub fn remaining(
-    desk: &mut [u64],
-    out: &mut [u8],
-    stops: &[StopWords],
-    count: u64,
-    marks: &mut [u64],
-) {
-    let mut i: usize = 0;
-    while i < stops.len() {
-        if i as u64 >= count {
-            return;
-        }
-        remain(desk, out, i, stops[i], marks);
-        i += 1;
+pub fn remaining(desk: &mut [u64], out: &mut [u8], stops: &[StopWords], marks: &mut [Mark]) {
+    for (at, stop) in stops.iter().enumerate() {
+        remain(desk, out, at, stop, marks);
     }
 }
 
 // Every stop's line begins at the panel's left end, at its stop.
-pub fn start(stops: &[StopWords], marks: &mut [u64]) {
-    let mut i: usize = 0;
-    while i < stops.len() {
-        let stop = stops[i];
-        mark(marks, i, LEFT, stop[4]);
-        i += 1;
+pub fn start(stops: &[StopWords], marks: &mut [Mark]) {
+    for (mark, stop) in marks.iter_mut().zip(stops) {
+        *mark = Mark {
+            across: LEFT,
+            price: stop[4],
+            stop: stop[4],
+        };
     }
 }

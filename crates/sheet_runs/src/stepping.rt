@@ -6,23 +6,23 @@ use book::{
 };
 use sheet_desk::{
     BEGAN, DRAWS, FALLS, LINE, MODE, MOVES, NUMBER, PICTURE, PRICE, PRINTS, SETTINGS, TRADE, TURN,
-    refused, tell_table, tell_text,
+    accepted, filled, some_prints, tell_table, tell_text, traded,
 };
 use sheet_lines::names;
 use sheet_listing::{collect_all, left};
-use sheet_pictures::MARKS;
+use sheet_pictures::{Mark, NO_MARK};
 use word_groups::{copy, four, rest, set, two, word};
 use yubtomiq::yubtomiq_step;
 
-// A step at the print that the run is at, come from the last trade.
+// A step at the print that the run is at, come from the last trade: how many it moves and elects.
 fn step_of(
     s: &mut [u64],
     desk: &[u64],
     elected: &mut [ElectedWords],
     moved: &mut [MovedWords],
-    answer: &mut [u64; 2],
-) -> u64 {
-    yubtomiq_step(
+) -> Result<[u64; 2], u64> {
+    let mut answer = [0u64; 2];
+    accepted(yubtomiq_step(
         s,
         &four(rest(desk, SETTINGS)),
         word(desk, FALLS),
@@ -30,13 +30,14 @@ fn step_of(
         word(desk, PRICE),
         elected,
         moved,
-        answer,
-    )
+        &mut answer,
+    ))?;
+    Ok(answer)
 }
 
 fn add_moves(desk: &mut [u64], moves: u64) {
     let so_far = word(&desk[..], MOVES);
-    set(desk, MOVES, std::num::wrapping_add_u64(so_far, moves));
+    set(desk, MOVES, so_far.wrapping_add(moves));
 }
 
 // The moves of a print: told by the stops of the store before it, or drawn by those of the walk.
@@ -46,19 +47,18 @@ fn moves(
     out: &mut [u8],
     stops: &mut [StopWords],
     moved: &[MovedWords],
-    count: u64,
-    marks: &mut [u64],
+    marks: &mut [Mark],
 ) {
-    if count == 0 {
+    if moved.is_empty() {
         return;
     }
-    add_moves(desk, count);
+    add_moves(desk, moved.len() as u64);
     if word(&desk[..], DRAWS) != 0 {
-        draw_moves(desk, out, stops, moved, count, marks);
+        draw_moves(desk, out, stops, moved, marks);
         return;
     }
     let then = collect_all(before, stops);
-    tell_moves(desk, out, &stops[..], then as usize, moved, count);
+    tell_moves(desk, out, then, moved);
 }
 
 // Says that the run is at a print.
@@ -78,43 +78,36 @@ fn happened(
     stops: &mut [StopWords],
     elected: &[ElectedWords],
     moved: &[MovedWords],
-    counts: &[u64; 2],
-    marks: &mut [u64],
+    marks: &mut [Mark],
 ) {
     tell_print(desk, out);
-    moves(before, desk, out, stops, moved, counts[0], marks);
-    elections(desk, out, &stops[..], elected, counts[1], marks);
+    moves(before, desk, out, stops, moved, marks);
+    elections(desk, out, &stops[..], elected, marks);
 }
 
-// A step at the print that the run is at, and what happened; its price is the last trade then. Answers the number of a
-// refusal, or 0.
+// A step at the print that the run is at, and what happened; its price is the last trade then.
 fn step(
     s: &mut [u64],
     before: &mut [u64],
     desk: &mut [u64],
     out: &mut [u8],
     stops: &mut [StopWords],
-    marks: &mut [u64],
-) -> u64 {
+    marks: &mut [Mark],
+) -> Result<(), u64> {
     let mut elected = [[0u64; ELECTED_WORDS]; MOST_RECORDS];
     let mut moved = [[0u64; MOVED_WORDS]; MOST_RECORDS];
-    let mut counts = [0u64; 2];
     copy(&s[..], before);
-    let r = step_of(s, &desk[..], &mut elected, &mut moved, &mut counts);
-    if r != 0 {
-        return r;
-    }
+    let counts = step_of(s, &desk[..], &mut elected, &mut moved)?;
     happened(
         &before[..],
         desk,
         out,
         stops,
-        &elected,
-        &moved,
-        &counts,
+        filled(&elected, counts[1]),
+        filled(&moved, counts[0]),
         marks,
     );
-    r
+    Ok(())
 }
 
 // Goes on to a print; the one before it is the last trade.
@@ -123,12 +116,7 @@ fn at_print(desk: &mut [u64], number: u64, price: u64) {
     set(desk, PRICE, price);
 }
 
-fn traded(desk: &mut [u64], price: u64) {
-    set(desk, TRADE, 1);
-    set(desk, TRADE + 1, price);
-}
-
-// A step at a print, and the print is the last trade. Answers the number of a refusal, or 0.
+// A step at a print, and the print is the last trade.
 fn print(
     s: &mut [u64],
     desk: &mut [u64],
@@ -136,8 +124,8 @@ fn print(
     number: u64,
     price: u64,
     stops: &mut [StopWords],
-    marks: &mut [u64],
-) -> u64 {
+    marks: &mut [Mark],
+) -> Result<(), u64> {
     let mut before = [0u64; STORE_WORDS];
     at_print(desk, number, price);
     let r = step(s, &mut before, desk, out, stops, marks);
@@ -153,19 +141,14 @@ fn prints(
     run: &[u64],
     by: u64,
     stops: &mut [StopWords],
-    marks: &mut [u64],
-) -> u64 {
+    marks: &mut [Mark],
+) -> Result<(), u64> {
     let mut number: u64 = 1;
-    let mut i: usize = 0;
-    while i < run.len() {
-        let r = print(s, desk, out, number, run[i], stops, marks);
-        if r != 0 {
-            return r;
-        }
-        number = std::num::wrapping_add_u64(number, by);
-        i += 1;
+    for &price in run {
+        print(s, desk, out, number, price, stops, marks)?;
+        number = number.wrapping_add(by);
     }
-    0
+    Ok(())
 }
 
 // The last price of a run.
@@ -176,10 +159,7 @@ pub fn last_of(run: &[u64]) -> u64 {
 // Whether a run falls as a whole, which decides which side comes first where it stands still: 1 if its last price is no
 // higher than its first.
 fn falls(run: &[u64]) -> u64 {
-    if last_of(run) <= word(run, 0) {
-        return 1;
-    }
-    0
+    u64::from(last_of(run) <= word(run, 0))
 }
 
 // The steps, with the picture's panel around them.
@@ -189,30 +169,24 @@ fn drawn(
     out: &mut [u8],
     run: &[u64],
     stops: &mut [StopWords],
-    marks: &mut [u64],
-) -> u64 {
+    marks: &mut [Mark],
+) -> Result<(), u64> {
     let many = word(&desk[..], BEGAN);
-    sheet_pictures::begin(desk, out, run, &stops[..], many, marks);
+    sheet_pictures::begin(desk, out, run, filled(&stops[..], many), marks);
     let r = prints(s, desk, out, run, 1, stops, marks);
-    sheet_pictures::remaining(desk, out, &stops[..], many, marks);
+    sheet_pictures::remaining(desk, out, filled(&stops[..], many), marks);
     sheet_pictures::finish(desk, out);
     r
 }
 
 // Whether a run is drawn: of a picture, the walks are.
 fn draws(desk: &[u64], row: u64) -> u64 {
-    if word(desk, MODE) != PICTURE {
-        return 0;
-    }
-    if row == names::WALK {
-        return 1;
-    }
-    0
+    u64::from(word(desk, MODE) == PICTURE && row == names::WALK)
 }
 
 // What a run begins with: no turns and no moves, its direction, and the stops.
 fn begin(s: &[u64], desk: &mut [u64], row: u64, run: &[u64], stops: &mut [StopWords]) {
-    let many = collect_all(s, stops);
+    let many = collect_all(s, stops).len() as u64;
     let drawn = draws(&desk[..], row);
     set(desk, DRAWS, drawn);
     set(desk, TURN, 0);
@@ -221,15 +195,21 @@ fn begin(s: &[u64], desk: &mut [u64], row: u64, run: &[u64], stops: &mut [StopWo
     set(desk, BEGAN, many);
 }
 
-fn stepped(s: &mut [u64], desk: &mut [u64], out: &mut [u8], row: u64, run: &[u64], by: u64) -> u64 {
-    let mut room = [[0u64; DATA_WORDS]; MOST_RECORDS];
-    let mut marks = [0u64; MARKS];
-    let stops: &mut [StopWords] = &mut room;
-    begin(&s[..], desk, row, run, stops);
+fn stepped(
+    s: &mut [u64],
+    desk: &mut [u64],
+    out: &mut [u8],
+    row: u64,
+    run: &[u64],
+    by: u64,
+) -> Result<(), u64> {
+    let mut stops = [[0u64; DATA_WORDS]; MOST_RECORDS];
+    let mut marks = [NO_MARK; MOST_RECORDS];
+    begin(&s[..], desk, row, run, &mut stops);
     if word(&desk[..], DRAWS) != 0 {
-        return drawn(s, desk, out, run, stops, &mut marks);
+        return drawn(s, desk, out, run, &mut stops, &mut marks);
     }
-    prints(s, desk, out, run, by, stops, &mut marks)
+    prints(s, desk, out, run, by, &mut stops, &mut marks)
 }
 
 // What is left of a run: nothing, as its prints are trades now.
@@ -250,7 +230,7 @@ fn evaluated(
     whole: &[u64],
     run: &[u64],
     by: u64,
-) {
+) -> Result<(), u64> {
     let line = word(&desk[..], LINE);
     tell_text(
         out,
@@ -258,35 +238,22 @@ fn evaluated(
         row,
         &[line, whole.len() as u64, word(whole, 0), last_of(whole)],
     );
-    let r = stepped(s, desk, out, row, run, by);
-    if r != 0 {
-        refused(out, desk, r);
-        return;
-    }
+    stepped(s, desk, out, row, run, by)?;
     summed(&s[..], desk, out);
+    Ok(())
 }
 
 // A step at every print.
-pub fn walk(s: &mut [u64], desk: &mut [u64], out: &mut [u8], run: &[u64]) {
-    if run.len() == 0 {
-        refused(out, desk, 16);
-        return;
-    }
-    evaluated(s, desk, out, names::WALK, run, run, 1);
+pub fn walk(s: &mut [u64], desk: &mut [u64], out: &mut [u8], run: &[u64]) -> Result<(), u64> {
+    let prints = some_prints(run)?;
+    evaluated(s, desk, out, names::WALK, prints, prints, 1)
 }
 
 // A step at the first print and, if it differs, one at the last: what a segment does.
-pub fn ends(s: &mut [u64], desk: &mut [u64], out: &mut [u8], run: &[u64]) {
-    if run.len() == 0 {
-        refused(out, desk, 16);
-        return;
-    }
-    let by = run.len() as u64 - 1;
-    let first = word(run, 0);
-    let last = last_of(run);
-    if first == last {
-        evaluated(s, desk, out, names::ENDS, run, &[first], by);
-        return;
-    }
-    evaluated(s, desk, out, names::ENDS, run, &[first, last], by);
+pub fn ends(s: &mut [u64], desk: &mut [u64], out: &mut [u8], run: &[u64]) -> Result<(), u64> {
+    let prints = some_prints(run)?;
+    let by = (prints.len() as u64).wrapping_sub(1);
+    let ends = [word(prints, 0), last_of(prints)];
+    let many = if ends[0] == ends[1] { 1 } else { 2 };
+    evaluated(s, desk, out, names::ENDS, prints, &ends[..many], by)
 }

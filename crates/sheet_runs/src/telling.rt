@@ -1,54 +1,37 @@
 // What happens at a print: moves and elections, told as text, as rows of a table, or drawn.
-use book::{ElectedWords, MovedWords, StopWords};
-use sheet_desk::{BEGAN, DRAWS, LINE, NUMBER, PRICE, TURN, tell_table, tell_text};
+use book::{DATA_WORDS, ElectedWords, MovedWords, StopWords};
+use sheet_desk::{BEGAN, DRAWS, LINE, NUMBER, PRICE, TURN, filled, tell_table, tell_text};
 use sheet_lines::names;
+use sheet_pictures::Mark;
 use word_groups::{set, word};
 
-// Whether two identities are the same.
-fn is_same(a: StopWords, kind: u64, high: u64, low: u64) -> bool {
-    if a[2] != low {
-        return false;
-    }
-    if a[1] != high {
-        return false;
-    }
-    a[0] == kind
+// The words of an identity, with which a stop and an entry of either list begin.
+const ID_WORDS: usize = 3;
+
+// The place of an identity in a list, from a place on.
+fn seek(stops: &[StopWords], id: &[u64], from: usize) -> Option<usize> {
+    stops
+        .iter()
+        .enumerate()
+        .skip(from)
+        .find(|(_, stop)| &stop[..ID_WORDS] == id)
+        .map(|(at, _)| at)
 }
 
-// The place of an identity between two places of a list; the second of them if it is not there.
-fn seek(stops: &[StopWords], kind: u64, high: u64, low: u64, from: usize, to: usize) -> usize {
-    let mut i = from;
-    while i < to {
-        if i >= stops.len() {
-            return to;
-        }
-        if is_same(stops[i], kind, high, low) {
-            return i;
-        }
-        i += 1;
-    }
-    to
-}
-
-// The place of an identity among the first of a list, looked for from a place on and then before it: one print's moves
-// come much in the order of the last one's.
-fn find(stops: &[StopWords], many: usize, kind: u64, high: u64, low: u64, from: usize) -> usize {
-    let behind = seek(stops, kind, high, low, from, many);
-    if behind < many {
-        return behind;
-    }
-    seek(stops, kind, high, low, 0, many)
+// The place of an identity, looked for from a place on and then before it: one print's moves come much in the order of
+// the last one's. The list's end, if it is not there.
+fn find(stops: &[StopWords], id: &[u64], from: usize) -> usize {
+    seek(stops, id, from)
+        .or_else(|| seek(stops, id, 0))
+        .unwrap_or(stops.len())
 }
 
 fn stop_at(stops: &[StopWords], at: usize) -> StopWords {
-    if at < stops.len() {
-        return stops[at];
-    }
-    [0; 13]
+    stops.get(at).copied().unwrap_or([0; DATA_WORDS])
 }
 
 // A move, by the stop as it was: it has the print's price for its watermark after it.
-fn tell_move(desk: &mut [u64], out: &mut [u8], was: StopWords, m: MovedWords) {
+fn tell_move(desk: &mut [u64], out: &mut [u8], was: &StopWords, m: &MovedWords) {
     let price = word(&desk[..], PRICE);
     let line = word(&desk[..], LINE);
     let number = word(&desk[..], NUMBER);
@@ -64,33 +47,13 @@ fn tell_move(desk: &mut [u64], out: &mut [u8], was: StopWords, m: MovedWords) {
     tell_table(out, desk, names::TABLE_MOVED, &cells);
 }
 
-fn next_of(at: usize, many: usize) -> usize {
-    if at < many {
-        return at + 1;
-    }
-    0
-}
-
 // The moves of a print, by the stops as they were before it.
-pub fn tell_moves(
-    desk: &mut [u64],
-    out: &mut [u8],
-    stops: &[StopWords],
-    many: usize,
-    moved: &[MovedWords],
-    moves: u64,
-) {
-    let mut from: usize = 0;
-    let mut i: usize = 0;
-    while i < moved.len() {
-        if i as u64 >= moves {
-            return;
-        }
-        let m = moved[i];
-        let at = find(stops, many, m[0], m[1], m[2], from);
-        tell_move(desk, out, stop_at(stops, at), m);
-        from = next_of(at, many);
-        i += 1;
+pub fn tell_moves(desk: &mut [u64], out: &mut [u8], stops: &[StopWords], moved: &[MovedWords]) {
+    let mut from = 0;
+    for m in moved {
+        let at = find(stops, &m[..ID_WORDS], from);
+        tell_move(desk, out, &stop_at(stops, at), m);
+        from = at.wrapping_add(1);
     }
 }
 
@@ -100,13 +63,11 @@ fn draw_move(
     out: &mut [u8],
     stops: &mut [StopWords],
     at: usize,
-    m: MovedWords,
-    marks: &mut [u64],
+    m: &MovedWords,
+    marks: &mut [Mark],
 ) {
-    if at < stops.len() {
-        let mut stop = stops[at];
+    if let Some(stop) = stops.get_mut(at) {
         stop[4] = m[3];
-        stops[at] = stop;
         sheet_pictures::moved(desk, out, stop[3], at, m[3], marks);
     }
 }
@@ -117,21 +78,14 @@ pub fn draw_moves(
     out: &mut [u8],
     stops: &mut [StopWords],
     moved: &[MovedWords],
-    moves: u64,
-    marks: &mut [u64],
+    marks: &mut [Mark],
 ) {
-    let many = word(&desk[..], BEGAN) as usize;
-    let mut from: usize = 0;
-    let mut i: usize = 0;
-    while i < moved.len() {
-        if i as u64 >= moves {
-            return;
-        }
-        let m = moved[i];
-        let at = find(&stops[..], many, m[0], m[1], m[2], from);
+    let many = word(&desk[..], BEGAN);
+    let mut from = 0;
+    for m in moved {
+        let at = find(filled(&stops[..], many), &m[..ID_WORDS], from);
         draw_move(desk, out, stops, at, m, marks);
-        from = next_of(at, many);
-        i += 1;
+        from = at.wrapping_add(1);
     }
 }
 
@@ -152,9 +106,9 @@ pub fn tell_elected(
     row: u64,
     number: u64,
     turn: u64,
-    e: ElectedWords,
+    e: &ElectedWords,
 ) {
-    sheet_listing::tell_elected(desk, out, row, names::TABLE_ELECTED, number, turn, &e);
+    sheet_listing::tell_elected(desk, out, row, names::TABLE_ELECTED, number, turn, e);
 }
 
 // An election: told, or drawn.
@@ -162,8 +116,8 @@ fn one_elected(
     desk: &mut [u64],
     out: &mut [u8],
     stops: &[StopWords],
-    e: ElectedWords,
-    marks: &mut [u64],
+    e: &ElectedWords,
+    marks: &mut [Mark],
 ) {
     let turn = next_turn(desk);
     if word(&desk[..], DRAWS) == 0 {
@@ -171,7 +125,8 @@ fn one_elected(
         tell_elected(desk, out, names::ELECTED, number, turn, e);
         return;
     }
-    let at = find(stops, word(&desk[..], BEGAN) as usize, e[0], e[1], e[2], 0);
+    let began = filled(stops, word(&desk[..], BEGAN));
+    let at = find(began, &e[..ID_WORDS], 0);
     sheet_pictures::elected(desk, out, e[3], at, e[4], turn, marks);
 }
 
@@ -181,15 +136,9 @@ pub fn elections(
     out: &mut [u8],
     stops: &[StopWords],
     list: &[ElectedWords],
-    count: u64,
-    marks: &mut [u64],
+    marks: &mut [Mark],
 ) {
-    let mut i: usize = 0;
-    while i < list.len() {
-        if i as u64 >= count {
-            return;
-        }
-        one_elected(desk, out, stops, list[i], marks);
-        i += 1;
+    for e in list {
+        one_elected(desk, out, stops, e, marks);
     }
 }

@@ -11,6 +11,7 @@ use text_numbers::{Step, put_number};
 use text_words::next_word;
 
 // The fault of a line and its column; 0 and 0 where there is none.
+// Two numbers and no Option: the clauses of `read_arguments` name them, and a command tells them on as numbers (`Told`).
 #[derive(Clone, Copy)]
 pub struct Taken {
     pub fault: u64,
@@ -47,6 +48,7 @@ fn put_values(values: &mut [u64], at: usize, s: Step) -> usize
 }
 
 // A word behind the last argument is a fault.
+#[tactic(auto, unfolding(crate::specs::Signatures::ended))]
 fn ended(line: &[u8], at: usize) -> Taken
     requires { at ≤ length line.now }
     ensures { (result.fault ≡ (Signatures·ended line.now at).fault) × (result.column ≡ (Signatures·ended line.now at).column) }
@@ -73,9 +75,8 @@ pub fn read_arguments(signature: &[u8], line: &[u8], at: usize, values: &mut [u6
 {
     let mut place = at;
     let mut next: usize = 0;
-    let mut i: usize = 0;
-    while i < signature.len() {
-        let s = argument_at(signature[i], line, place);
+    for letter in signature {
+        let s = argument_at(*letter, line, place);
         if s.fault != 0 {
             return Taken {
                 fault: s.fault,
@@ -84,7 +85,6 @@ pub fn read_arguments(signature: &[u8], line: &[u8], at: usize, values: &mut [u6
         }
         next = put_values(values, next, s);
         place = s.next;
-        i += 1;
     }
     ended(line, place)
 }

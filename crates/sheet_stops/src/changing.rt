@@ -1,7 +1,7 @@
 // A stop admitted, changed or cancelled.
 use book::{DATA_WORDS, StopWords};
 use host_words::{FOUND_WORDS, FoundWords};
-use sheet_desk::{IN_USE, KILL, LINE, TRADE, refused, tell_table, tell_text};
+use sheet_desk::{IN_USE, KILL, LINE, TRADE, accepted, tell_table, tell_text};
 use sheet_lines::names;
 use sheet_listing::{is_held, lined};
 use word_groups::{four, rest, set, three, two, word};
@@ -12,10 +12,11 @@ use yubtomiq::{
 
 // Each call by itself, where its contract is not in sight of what is printed: the proofs are quicker so.
 
-fn admit_of(s: &mut [u64], desk: &[u64], side: u64, v: &[u64], answer: &mut [u64; 1]) -> u64 {
+fn admit_of(s: &mut [u64], desk: &[u64], side: u64, v: &[u64]) -> Result<(), u64> {
     let mut path = [0u64; 4];
+    let mut sequence = [0u64; 1];
     let terms = [side, word(v, 3), word(v, 4), word(v, 5)];
-    yubtomiq_admit_trailing_stop(
+    accepted(yubtomiq_admit_trailing_stop(
         s,
         &mut path,
         word(desk, KILL),
@@ -24,26 +25,33 @@ fn admit_of(s: &mut [u64], desk: &[u64], side: u64, v: &[u64], answer: &mut [u64
         &terms,
         word(v, 6),
         &four(rest(v, 7)),
-        answer,
-    )
+        &mut sequence,
+    ))
 }
 
-fn find_of(s: &[u64], id: &[u64], answer: &mut FoundWords) -> u64 {
-    yubtomiq_pending_stop_order(s, &three(id), answer)
+// A pending stop behind a word of its own; zeros where there is none.
+fn found(s: &[u64], id: &[u64]) -> FoundWords {
+    let mut stop = [0u64; FOUND_WORDS];
+    yubtomiq_pending_stop_order(s, &three(id), &mut stop);
+    stop
 }
 
-fn update_of(
-    s: &mut [u64],
-    desk: &[u64],
-    id: &[u64],
-    update: &[u64; 4],
-    answer: &mut StopWords,
-) -> u64 {
-    yubtomiq_update_pending_stop(s, &three(id), update, &two(rest(desk, TRADE)), answer)
+fn update_of(s: &mut [u64], desk: &[u64], id: &[u64], update: &[u64; 4]) -> Result<StopWords, u64> {
+    let mut stop = [0u64; DATA_WORDS];
+    accepted(yubtomiq_update_pending_stop(
+        s,
+        &three(id),
+        update,
+        &two(rest(desk, TRADE)),
+        &mut stop,
+    ))?;
+    Ok(stop)
 }
 
-fn cancel_of(s: &mut [u64], id: &[u64], answer: &mut StopWords) -> u64 {
-    yubtomiq_cancel_pending_stop(s, &three(id), answer)
+fn cancel_of(s: &mut [u64], id: &[u64]) -> Result<StopWords, u64> {
+    let mut stop = [0u64; DATA_WORDS];
+    accepted(yubtomiq_cancel_pending_stop(s, &three(id), &mut stop))?;
+    Ok(stop)
 }
 
 // A stop behind the number of its line, in the rows of text and table that are given.
@@ -54,29 +62,30 @@ fn tell_stop(desk: &mut [u64], out: &mut [u8], text: u64, table: u64, stop: &Fou
 
 // The row of an admitted stop: one with a holder says so.
 fn admitted_row(stop: &FoundWords) -> u64 {
-    if is_held(stop[10], stop[11], stop[12], stop[13]) {
+    if is_held(&stop[10..]) {
         return names::ADMITTED_HOLDER;
     }
     names::ADMITTED
 }
 
 fn say_admitted(s: &[u64], desk: &mut [u64], out: &mut [u8], id: &[u64]) {
-    let mut stop = [0u64; FOUND_WORDS];
-    find_of(s, id, &mut stop);
+    let mut stop = found(s, id);
     stop[0] = word(&desk[..], LINE);
     tell_stop(desk, out, admitted_row(&stop), names::TABLE_ADMITTED, &stop);
 }
 
 // A stop: identity, stop, watermark, trail, quantity, holder.
-pub fn admit(s: &mut [u64], desk: &mut [u64], out: &mut [u8], side: u64, v: &[u64]) {
-    let mut sequence = [0u64; 1];
-    let r = admit_of(s, &desk[..], side, v, &mut sequence);
-    if r != 0 {
-        refused(out, desk, r);
-        return;
-    }
+pub fn admit(
+    s: &mut [u64],
+    desk: &mut [u64],
+    out: &mut [u8],
+    side: u64,
+    v: &[u64],
+) -> Result<(), u64> {
+    admit_of(s, &desk[..], side, v)?;
     set(desk, IN_USE, 1);
     say_admitted(&s[..], desk, out, v);
+    Ok(())
 }
 
 // The values of a changed stop's line, by what it was asked to change.
@@ -120,19 +129,9 @@ fn say_changed(desk: &mut [u64], out: &mut [u8], change: u64, stop: &StopWords, 
     tell_table(out, desk, names::TABLE_CHANGED, &lined(line, stop));
 }
 
-// The sequence of a pending stop; 0 where there is none.
-fn sequence_of(s: &[u64], id: &[u64]) -> u64 {
-    let mut found = [0u64; FOUND_WORDS];
-    find_of(s, id, &mut found);
-    found[9]
-}
-
 // Whether a change cancels: a quantity of zero, and nothing else, does.
 fn cancels(update: &[u64; 4]) -> bool {
-    if update[0] != 0 {
-        return false;
-    }
-    update[3] == 0
+    update[0] == 0 && update[3] == 0
 }
 
 fn say_cancelled(desk: &mut [u64], out: &mut [u8], stop: &StopWords) {
@@ -146,28 +145,26 @@ fn say_cancelled(desk: &mut [u64], out: &mut [u8], stop: &StopWords) {
     );
 }
 
-// A change of a pending stop: what to change, side, price, quantity.
-pub fn change(s: &mut [u64], desk: &mut [u64], out: &mut [u8], id: &[u64], update: &[u64; 4]) {
-    let was = sequence_of(&s[..], id);
-    let mut stop = [0u64; DATA_WORDS];
-    let r = update_of(s, &desk[..], id, update, &mut stop);
-    if r != 0 {
-        refused(out, desk, r);
-        return;
-    }
+// A change of a pending stop: what to change, side, price, quantity. Its sequence before it says whether it keeps its turn.
+pub fn change(
+    s: &mut [u64],
+    desk: &mut [u64],
+    out: &mut [u8],
+    id: &[u64],
+    update: &[u64; 4],
+) -> Result<(), u64> {
+    let was = found(&s[..], id);
+    let stop = update_of(s, &desk[..], id, update)?;
     if cancels(update) {
         say_cancelled(desk, out, &stop);
-        return;
+    } else {
+        say_changed(desk, out, update[0], &stop, was[9]);
     }
-    say_changed(desk, out, update[0], &stop, was);
+    Ok(())
 }
 
-pub fn cancel(s: &mut [u64], desk: &mut [u64], out: &mut [u8], id: &[u64]) {
-    let mut stop = [0u64; DATA_WORDS];
-    let r = cancel_of(s, id, &mut stop);
-    if r != 0 {
-        refused(out, desk, r);
-        return;
-    }
+pub fn cancel(s: &mut [u64], desk: &mut [u64], out: &mut [u8], id: &[u64]) -> Result<(), u64> {
+    let stop = cancel_of(s, id)?;
     say_cancelled(desk, out, &stop);
+    Ok(())
 }

@@ -6,6 +6,7 @@ use text_numbers::{Step, got, number_at};
 use text_words::{next_word, same};
 
 // FIRST LAST, behind what is known of the start.
+#[tactic(auto, unfolding(crate::specs::Words::range_at))]
 fn range_at(given: u64, start: u64, line: &[u8], at: usize) -> Step
     requires { at ≤ length line.now }
     ensures { (result ≡ range_at given start line.now at) × (result.next ≤ length line.now) }
@@ -22,6 +23,7 @@ fn range_at(given: u64, start: u64, line: &[u8], at: usize) -> Step
 }
 
 // P FIRST LAST, behind `from`.
+#[tactic(auto, unfolding(crate::specs::Words::started_at))]
 fn started_at(line: &[u8], at: usize) -> Step
     requires { at ≤ length line.now }
     ensures { (result ≡ started_at line.now at) × (result.next ≤ length line.now) }
@@ -34,6 +36,7 @@ fn started_at(line: &[u8], at: usize) -> Step
 }
 
 // `none`, or FIRST LAST, or `from` P FIRST LAST.
+#[tactic(auto, unfolding(crate::specs::Words::child_at, crate::specs::Words::none_text, crate::specs::Words::from_text))]
 pub fn child_at(line: &[u8], at: usize) -> Step
     requires { at ≤ length line.now }
     ensures { (result ≡ child_at line.now at) × (result.next ≤ length line.now) }

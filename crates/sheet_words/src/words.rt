@@ -6,6 +6,7 @@ use text_numbers::{Step, bad, got, number_at};
 use text_words::{next_word, same};
 
 // A number or `none`.
+#[tactic(auto, unfolding(crate::specs::Words::optional_at, crate::specs::Words::none_text))]
 pub fn optional_at(line: &[u8], at: usize) -> Step
     requires { at ≤ length line.now }
     ensures { (result ≡ optional_at line.now at) × (result.next ≤ length line.now) }
@@ -24,6 +25,7 @@ pub fn optional_at(line: &[u8], at: usize) -> Step
 }
 
 // One word or another.
+#[tactic(auto, unfolding(crate::specs::Words::either_at))]
 pub fn either_at(one: &[u8], other: &[u8], fault: u64, line: &[u8], at: usize) -> Step
     requires { at ≤ length line.now }
     ensures { (result ≡ either_at one.now other.now fault line.now at) × (result.next ≤ length line.now) }

@@ -3,7 +3,7 @@ use crate::{kinds, running};
 use book::{MOST_PRICES, MOST_RECORDS, SCRIPT_ENTRY_WORDS, STORE_WORDS};
 use sheet_commands::read_command;
 use sheet_desk::{
-    LINE, MODE, PICTURE, RECORDS, STOPPED, WHOLE_DESK_WORDS, end, say, tell, tell_picture,
+    LINE, MODE, PICTURE, RECORDS, STOPPED, WHOLE_DESK_WORDS, end, refused, say, tell, tell_picture,
     tell_table,
 };
 use sheet_lines::names;
@@ -21,32 +21,18 @@ const SCRIPT_WORDS: usize = SCRIPT_ENTRY_WORDS * MOST_RECORDS;
 // The most values of a command.
 const VALUES: usize = 16;
 
-// The bytes between two places, at most 32 of them.
-fn short(line: &[u8], start: usize, end: usize) -> &[u8] {
-    if end > line.len() {
-        return &line[0..0];
-    }
-    if start > end {
-        return &line[0..0];
-    }
-    if end - start > 32 {
-        let cut = start + 32;
-        return &line[start..cut];
-    }
-    &line[start..end]
-}
+// The most bytes of a word that are shown, as the words of a holder.
+const SHOWN: usize = 32;
 
-// The word at a column, counted from 1, as the words of a holder: the first 32 bytes.
+// The word at a column, counted from 1, as the words of a holder: its first bytes.
 fn word_at(line: &[u8], column: usize) -> [u64; 4] {
-    if column == 0 {
+    if column == 0 || column - 1 > line.len() {
         return [0; 4];
     }
-    let at = column - 1;
-    if at > line.len() {
-        return [0; 4];
-    }
-    let w = next_word(line, at);
-    let h = holder_at(short(line, w.start, w.end), 0);
+    let w = next_word(line, column - 1);
+    let word = &line[w.start..w.end];
+    let shown = word.get(..SHOWN).unwrap_or(word);
+    let h = holder_at(shown, 0);
     [h.a, h.b, h.c, h.d]
 }
 
@@ -82,14 +68,16 @@ fn line(
     out: &mut [u8],
 ) {
     let number = word(&desk[..], LINE);
-    set(desk, LINE, std::num::wrapping_add_u64(number, 1));
+    set(desk, LINE, number.wrapping_add(1));
     let mut values = [0u64; VALUES];
     let r = read_command(text, &mut values);
     if r.fault != 0 {
         unread(text, r.fault, r.column, desk, out);
         return;
     }
-    running::run(r.kind, text, &values, s, run, script, desk, out);
+    if let Err(number) = running::run(r.kind, text, &values, s, run, script, desk, out) {
+        refused(out, desk, number);
+    }
 }
 
 // The lines of a text, up to the first that cannot be read.
@@ -102,10 +90,10 @@ fn lines(
     out: &mut [u8],
 ) {
     let mut at: usize = 0;
+    // By place: the next line begins where `next_line` says.
     while at < text.len() {
         let cut = next_line(text, at);
-        let end = cut.end;
-        line(&text[at..end], s, run, script, desk, out);
+        line(&text[at..cut.end], s, run, script, desk, out);
         if word(&desk[..], STOPPED) != 0 {
             return;
         }
@@ -114,26 +102,22 @@ fn lines(
 }
 
 // Whether a line is a walk.
-fn walks(text: &[u8]) -> u64 {
+fn is_walk(text: &[u8]) -> bool {
     let mut values = [0u64; VALUES];
     let r = read_command(text, &mut values);
-    if r.fault != 0 {
-        return 0;
-    }
-    if r.kind == kinds::WALK {
-        return 1;
-    }
-    0
+    r.fault == 0 && r.kind == kinds::WALK
 }
 
 // How many panels a picture has: one for each walk.
 fn panels(text: &[u8]) -> u64 {
     let mut many: u64 = 0;
     let mut at: usize = 0;
+    // By place: the next line begins where `next_line` says.
     while at < text.len() {
         let cut = next_line(text, at);
-        let end = cut.end;
-        many = std::num::wrapping_add_u64(many, walks(&text[at..end]));
+        if is_walk(&text[at..cut.end]) {
+            many += 1;
+        }
         at = cut.next;
     }
     many
@@ -180,19 +164,10 @@ fn finish(desk: &mut [u64], out: &mut [u8]) {
 
 // A text without the byte-order mark that some spreadsheets put before it.
 fn unmarked(text: &[u8]) -> &[u8] {
-    if text.len() < 3 {
-        return text;
+    match text {
+        [0xef, 0xbb, 0xbf, rest @ ..] => rest,
+        _ => text,
     }
-    if text[0] != 0xef {
-        return text;
-    }
-    if text[1] != 0xbb {
-        return text;
-    }
-    if text[2] != 0xbf {
-        return text;
-    }
-    &text[3..]
 }
 
 // A whole sheet.

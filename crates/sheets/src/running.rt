@@ -1,32 +1,39 @@
 // A command that was read, run by its kind.
 use crate::kinds;
-use book::{MOST_PRICES, MOST_TRIAL_PRICES};
+use book::{MOST_PRICES, MOST_TRIAL_PRICES, SCRIPT_ENTRY_WORDS};
 use sheet_commands::put_numbers;
-use sheet_desk::{ENTRIES, LINE, PRINTS, RECORDS, TICK, refused, tell};
+use sheet_desk::{ENTRIES, LINE, PRICE_COUNT, PRINTS, RECORDS, TICK, tell};
 use sheet_lines::names;
 use word_groups::{first, rest, set, word};
 
 // Lines that set something.
-fn settings(kind: u64, v: &[u64], s: &mut [u64], desk: &mut [u64], out: &mut [u8]) {
+fn settings(
+    kind: u64,
+    v: &[u64],
+    s: &mut [u64],
+    desk: &mut [u64],
+    out: &mut [u8],
+) -> Result<(), u64> {
     let n = word(v, 0);
     match kind {
         kinds::RECORDS => {
             let tick = word(&desk[..], TICK);
-            sheet_stops::store(s, desk, out, n, tick);
+            sheet_stops::store(s, desk, out, n, tick)?;
         }
         kinds::TICK => {
             let records = word(&desk[..], RECORDS);
-            sheet_stops::store(s, desk, out, records, n);
+            sheet_stops::store(s, desk, out, records, n)?;
         }
-        kinds::COLLAR => sheet_stops::collar(desk, out, n, word(v, 1)),
+        kinds::COLLAR => sheet_stops::collar(desk, out, n, word(v, 1))?,
         kinds::NAMESPACE => sheet_stops::namespace(desk, out, n, word(v, 1)),
         kinds::KILL => sheet_stops::kill(desk, out, n),
         _ => sheet_stops::last(desk, out, n, word(v, 1)),
     }
+    Ok(())
 }
 
 // Lines on one stop.
-fn stops(kind: u64, v: &[u64], s: &mut [u64], desk: &mut [u64], out: &mut [u8]) {
+fn stops(kind: u64, v: &[u64], s: &mut [u64], desk: &mut [u64], out: &mut [u8]) -> Result<(), u64> {
     match kind {
         kinds::SELL => sheet_stops::admit(s, desk, out, 1, v),
         kinds::BUY => sheet_stops::admit(s, desk, out, 0, v),
@@ -41,7 +48,7 @@ fn stops(kind: u64, v: &[u64], s: &mut [u64], desk: &mut [u64], out: &mut [u8]) 
 }
 
 // Lines on all stops, or those of a holder.
-fn lists(kind: u64, v: &[u64], s: &mut [u64], desk: &mut [u64], out: &mut [u8]) {
+fn lists(kind: u64, v: &[u64], s: &mut [u64], desk: &mut [u64], out: &mut [u8]) -> Result<(), u64> {
     match kind {
         kinds::CANCEL_HOLDER => sheet_listing::cancel_holder(s, desk, out, v),
         kinds::CLEAR => sheet_stops::clear(s, desk, out),
@@ -53,52 +60,40 @@ fn lists(kind: u64, v: &[u64], s: &mut [u64], desk: &mut [u64], out: &mut [u8]) 
 
 // Puts so many numbers of a line, from a place on, into a list.
 fn put(line: &[u8], from: usize, many: usize, list: &mut [u64], at: usize) {
-    if from > line.len() {
-        return;
+    if from <= line.len() && many <= MOST_PRICES && at <= MOST_PRICES {
+        put_numbers(line, from, many, list, at);
     }
-    if many > MOST_PRICES {
-        return;
-    }
-    if at > MOST_PRICES {
-        return;
-    }
-    put_numbers(line, from, many, list, at);
 }
 
 // Puts prints behind those of the run, if it has room for all of them.
-fn prints(line: &[u8], v: &[u64], run: &mut [u64], desk: &mut [u64], out: &mut [u8]) {
+fn prints(
+    line: &[u8],
+    v: &[u64],
+    run: &mut [u64],
+    desk: &mut [u64],
+    out: &mut [u8],
+) -> Result<(), u64> {
     let at = word(&desk[..], PRINTS);
     let many = word(v, 1);
     let most = MOST_PRICES as u64;
-    if many > most {
-        refused(out, desk, 16);
-        return;
-    }
-    if at > most - many {
-        refused(out, desk, 16);
-        return;
+    if many > most || at > most - many {
+        return Err(PRICE_COUNT);
     }
     put(line, word(v, 0) as usize, many as usize, run, at as usize);
     set(desk, PRINTS, at + many);
     let number = word(&desk[..], LINE);
     tell(out, desk, names::PRINTS, &[number, many, at + many]);
+    Ok(())
 }
 
 // One price more than a ladder takes, so that the library refuses too many.
 const TRIAL_ROOM: usize = MOST_TRIAL_PRICES + 1;
 
-fn trial_count(many: u64) -> usize {
-    if many > TRIAL_ROOM as u64 {
-        return TRIAL_ROOM;
-    }
-    many as usize
-}
-
-fn ladder(line: &[u8], v: &[u64], s: &[u64], desk: &mut [u64], out: &mut [u8]) {
+fn ladder(line: &[u8], v: &[u64], s: &[u64], desk: &mut [u64], out: &mut [u8]) -> Result<(), u64> {
     let mut prices = [0u64; TRIAL_ROOM];
-    let many = trial_count(word(v, 1));
+    let many = TRIAL_ROOM.min(word(v, 1) as usize);
     put(line, word(v, 0) as usize, many, &mut prices, 0);
-    sheet_listing::ladder(s, desk, out, first(&prices, many));
+    sheet_listing::ladder(s, desk, out, first(&prices, many))
 }
 
 // Lines that take the run or the script.
@@ -110,33 +105,36 @@ fn runs(
     script: &mut [u64],
     desk: &mut [u64],
     out: &mut [u8],
-) {
+) -> Result<(), u64> {
     let taken = first(run, word(&desk[..], PRINTS) as usize);
     match kind {
         kinds::WALK => sheet_runs::walk(s, desk, out, taken),
         kinds::ENDS => sheet_runs::ends(s, desk, out, taken),
         kinds::COMPARE => sheet_compare::compare(&s[..], desk, out, taken),
         kinds::TURNS => sheet_compare::turns(desk, out, taken),
-        kinds::CHILD => sheet_runs::child(script, desk, out, v),
+        kinds::CHILD => {
+            sheet_runs::child(script, desk, out, v);
+            Ok(())
+        }
         kinds::ASK => sheet_asking::ask(&s[..], desk, out, taken),
         kinds::COMMIT => sheet_asking::commit(s, desk, out, taken),
         _ => pass(s, taken, &script[..], desk, out),
     }
 }
 
-fn entry_words(entries: u64) -> usize {
-    if entries > 0x1000 {
-        return 0;
-    }
-    entries as usize * 5
+fn pass(
+    s: &mut [u64],
+    run: &[u64],
+    script: &[u64],
+    desk: &mut [u64],
+    out: &mut [u8],
+) -> Result<(), u64> {
+    let entries = word(&desk[..], ENTRIES) as usize;
+    let used = first(script, entries.saturating_mul(SCRIPT_ENTRY_WORDS));
+    sheet_runs::pass(s, desk, out, used, run)
 }
 
-fn pass(s: &mut [u64], run: &[u64], script: &[u64], desk: &mut [u64], out: &mut [u8]) {
-    let many = entry_words(word(&desk[..], ENTRIES));
-    sheet_runs::pass(s, desk, out, first(script, many), run);
-}
-
-// The command of a line; its kind is none where the line has no words.
+// The command of a line; its kind is none where the line has no words. Answers the number of a refusal.
 pub fn run(
     kind: u64,
     line: &[u8],
@@ -146,9 +144,9 @@ pub fn run(
     script: &mut [u64],
     desk: &mut [u64],
     out: &mut [u8],
-) {
+) -> Result<(), u64> {
     match kind {
-        0 => {}
+        0 => Ok(()),
         1..=6 => settings(kind, v, s, desk, out),
         7..=13 => stops(kind, v, s, desk, out),
         14 | 15 | 24 | 25 | 26 => lists(kind, v, s, desk, out),

@@ -5,7 +5,6 @@ ghost use Rattle.std.specs.Prelude.{◌≡◌};
 ghost use Rattle.book.specs.Steps.{other, first_side};
 ghost use Rattle.book.specs.Evaluation.{sells_first, falls_to};
 
-use book::LastPrice;
 use pricelevel::{Price, Side};
 
 // ---------------------------------------------------------------------
@@ -42,10 +41,10 @@ pub fn falls_to(first: Price, last: Price) -> bool
 }
 
 // Whether the sells come first at a price, given whether the run falls and the price that it arrived from.
-pub fn sells_first(falls: bool, from: LastPrice, price: Price) -> bool
+pub fn sells_first(falls: bool, from: Option<Price>, price: Price) -> bool
     ensures { result ≡ sells_first falls from price }
 {
-    let LastPrice::At(last) = from else {
+    let Some(last) = from else {
         return falls;
     };
     if last.0 == price.0 {

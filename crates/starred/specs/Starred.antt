@@ -1,8 +1,6 @@
 -- The starred examples of document 01, in one table with one proof. The buy limit at the top is that of document 02, Four.
-use Rattle.std.specs.Prelude.{ℕ, ◌-◌, ◌^◌, Bool, true, false, List, [], ◌∷◌, map, ◌≡◌, refl}
+use Rattle.std.specs.Prelude.{ℕ, ◌-◌, ◌^◌, Bool, true, false, List, [], ◌∷◌, map, ◌≡◌, refl, None, Option}
 use Rattle.book.specs.Evaluation.{sells_first, falls_to}
-use Rattle.book.specs.declared.LastPrice.{LastPrice}
-use Rattle.book.specs.declared.LastPrice.TheVariants as last
 use Rattle.pricelevel.specs.Price.{to_price}
 use Rattle.pricelevel.specs.TwoWords.{two_words}
 use Rattle.pricelevel.specs.declared.Side.{Side}
@@ -10,6 +8,7 @@ use Rattle.pricelevel.specs.declared.Side.TheVariants.{Buy, Sell}
 use Rattle.stop_protection.specs.Collar.{limit_for, limit_price}
 use Rattle.stop_terms.specs.Terms.{behind, candidate, tightened, ratcheted, trailed_at, elects, elected_at}
 use Rattle.stop_terms.specs.declared.StopTerms.{StopTerms}
+use Rattle.pricelevel.specs.declared.Price.{Price}
 
 -- Side, stop, watermark, trail.
 unfoldable pub terms : Side → ℕ → ℕ → ℕ → StopTerms
@@ -30,7 +29,7 @@ pub data Question : Type 0 where
   trailed : StopTerms → ℕ → Question
   elected : StopTerms → ℕ → Question
   limit : Side → ℕ → ℕ → Question
-  sells_lead : LastPrice → ℕ → ℕ → Question
+  sells_lead : Option Price → ℕ → ℕ → Question
 
 unfoldable pub answer : Question → List ℕ
 answer (trailed t price) = (trailed_at t (to_price price)).stop.0 ∷ (trailed_at t (to_price price)).watermark.0 ∷ []
@@ -62,8 +61,8 @@ table =
     ∷ example (limit Sell 95 5) (0 ∷ 90 ∷ [])
     ∷ example (limit Sell 95 100) (0 ∷ 0 ∷ [])
     ∷ example (limit Buy (2 ^ 64 - 1) 1) (1 ∷ 0 ∷ [])
-    ∷ example (sells_lead last.None 100 101) (0 ∷ [])
-    ∷ example (sells_lead last.None 100 100) (1 ∷ [])
+    ∷ example (sells_lead None 100 101) (0 ∷ [])
+    ∷ example (sells_lead None 100 100) (1 ∷ [])
     ∷ []
 
 unfoldable pub answered : List (List ℕ)

@@ -8,18 +8,14 @@
 #![tactic(auto)]
 
 pub use book::{
-    AdmissionAnswer, Counts, Elected, EvaluationAnswer, FindAnswer, LadderWords, LastPrice,
-    LayoutAnswer, ListAnswer, Moved, OrderUpdate, PassAnswer, PassCounts, PrintPath, PrintSegment,
-    QuantityAnswer, Selector, Settings, StopAnswer, StopEntry, StopWords, Totals,
+    Counts, Elected, LadderWords, Moved, OrderUpdate, PassCounts, PrintPath, PrintSegment,
+    Selector, Settings, StopEntry, StopWords, Totals,
 };
 pub use error::Refusal;
 pub use lent_step::PrintStep;
 pub use pricelevel::{Holder, Id, IdKind, Price, Quantity, Seq, Side, TwoWords};
-pub use print_path::NextSegment;
-pub use repricing::{Adjustment, TrailingStopPrice};
-pub use stop_protection::{
-    Limit, LimitPrice, NewProtection, Protection, StopProtection, TickCheck,
-};
+pub use repricing::Adjustment;
+pub use stop_protection::{LimitPrice, StopProtection};
 pub use stop_terms::{Inconsistency, StopTerms};
 pub use uuid_v5::Uuid;
 

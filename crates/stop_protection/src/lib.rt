@@ -4,8 +4,9 @@
 #![tactic(auto)]
 
 ghost use Rattle.std.specs.Prelude.{◌≡◌, ◌<◌, ◌^◌};
+ghost use Rattle.error.specs.Answer.{told_answer};
 ghost use Rattle.pricelevel.specs.TwoWords.{number_of};
-ghost use Rattle.stop_protection.specs.Collar.{try_new, told_new, limit_for, limit_under, limit_words, check_tick_size, told_check};
+ghost use Rattle.stop_protection.specs.Collar.{try_new, limit_for, limit_under, limit_words, check_tick_size};
 
 use error::Refusal;
 use pricelevel::{Price, Side, TwoWords};
@@ -15,44 +16,22 @@ use pricelevel::{Price, Side, TwoWords};
 #[derive(Clone, Copy)]
 pub struct LimitPrice(pub TwoWords);
 
-// The limit of an elected stop's order: none for a market order.
-#[derive(Clone, Copy)]
-pub enum Limit {
-    None,
-    At(LimitPrice),
+// The words of the limit of an elected stop's order, none for a market order: present (0, 1), and the price's high and
+// low word, or zeros.
+pub fn limit_words(limit: Option<LimitPrice>) -> [u64; 3]
+    ensures { result ≡ limit_words limit }
+{
+    let Some(price) = limit else {
+        return [0, 0, 0];
+    };
+    let words = price.0;
+    [1, words.high, words.low]
 }
 
-impl Limit {
-    // The words of a limit: present (0, 1), and the price's high and low word, or zeros.
-    pub fn words(self) -> [u64; 3]
-        ensures { result ≡ limit_words self }
-    {
-        let Limit::At(price) = self else {
-            return [0, 0, 0];
-        };
-        let words = price.0;
-        [1, words.high, words.low]
-    }
-}
-
-// A collar, in price units, which is never zero: no protection is Protection::None, not a zero collar.
+// A collar, in price units, which is never zero: no protection is None, not a zero collar.
 #[derive(Clone, Copy)]
 pub struct StopProtection {
     collar: u64,
-}
-
-// What try_new answers.
-#[derive(Clone, Copy)]
-pub enum NewProtection {
-    Ok(StopProtection),
-    Err(Refusal),
-}
-
-// What check_tick_size answers.
-#[derive(Clone, Copy)]
-pub enum TickCheck {
-    Ok,
-    Err(Refusal),
 }
 
 impl StopProtection {
@@ -63,13 +42,13 @@ impl StopProtection {
     pub const HIGHEST_PRICE: u64 = 0xffff_ffff_ffff_ffff;
 
     // A protection with a collar of so many price units. Refused: a zero collar (17).
-    pub fn try_new(collar: u64) -> NewProtection
-        ensures { told_new result ≡ try_new collar }
+    pub fn try_new(collar: u64) -> Result<StopProtection, Refusal>
+        ensures { told_answer result ≡ try_new collar }
     {
         if collar == 0 {
-            return NewProtection::Err(Refusal::ZeroCollar);
+            return Err(Refusal::ZeroCollar);
         }
-        NewProtection::Ok(StopProtection { collar: collar })
+        Ok(StopProtection { collar: collar })
     }
 
     // The collar, in price units.
@@ -106,31 +85,26 @@ impl StopProtection {
     }
 
     // Whether the collar is a multiple of the tick, or the tick is 0, which is none. Refused: it is not (18).
-    pub fn check_tick_size(self, tick_size: u64) -> TickCheck
-        ensures { told_check result ≡ check_tick_size self.collar tick_size }
+    pub fn check_tick_size(self, tick_size: u64) -> Result<(), Refusal>
+        ensures { told_answer result ≡ check_tick_size self.collar tick_size }
     {
         if pricelevel::on_tick(tick_size, self.collar) {
-            return TickCheck::Ok;
+            return Ok(());
         }
-        TickCheck::Err(Refusal::CollarOffTick)
+        Err(Refusal::CollarOffTick)
     }
 }
 
-// A book's protection: perhaps none.
-#[derive(Clone, Copy)]
-pub enum Protection {
-    None,
-    Collar(StopProtection),
-}
-
-impl Protection {
-    // The limit of a stop's order under this protection: no collar, no limit.
-    pub fn limit(self, side: Side, stop_price: Price) -> Limit
-        ensures { result ≡ limit_under self side stop_price }
-    {
-        let Protection::Collar(protection) = self else {
-            return Limit::None;
-        };
-        Limit::At(protection.limit_price(side, stop_price))
-    }
+// The limit of a stop's order under a book's protection, perhaps none: no collar, no limit.
+pub fn limit_under(
+    protection: Option<StopProtection>,
+    side: Side,
+    stop_price: Price,
+) -> Option<LimitPrice>
+    ensures { result ≡ limit_under protection side stop_price }
+{
+    let Some(collar) = protection else {
+        return None;
+    };
+    Some(collar.limit_price(side, stop_price))
 }

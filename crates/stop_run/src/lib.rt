@@ -1,25 +1,23 @@
 // The run over path and store, from orderbook-rs's stop_orders.rs: a pass over the path's segment, and the path reset.
 #![tactic(auto)]
 
-ghost use Rattle.std.specs.Prelude.{cond, not, ◌||◌, map, ◌≡◌, eqb, length};
-ghost use Rattle.std.proofs.Math.Option.{none, some};
+ghost use Rattle.std.specs.Prelude.{None, Some, cond, not, ◌||◌, map, ◌≡◌, eqb, length};
 ghost use Rattle.book.specs.Calls.{written, run_call};
 ghost use Rattle.book.specs.Path.{segment_of};
-ghost use Rattle.book.specs.Answers.{told_pass};
+ghost use Rattle.error.specs.Answer.{told_answer};
 ghost use Rattle.book.specs.Entries.{elected_words};
-ghost use Rattle.print_path.specs.Segments.{told_next};
 
-use book::{ElectedWords, LastPrice, PassAnswer, PassCounts, PrintPath, Settings, StopRun};
-use error::Verdict;
+use book::{ElectedWords, PassCounts, PrintPath, PrintSegment, Settings, StopRun};
 use evaluate_pass::{ask_pass, pass_over};
-use print_path::{NextSegment, closed, taken};
+use pricelevel::Price;
+use print_path::{closed, taken};
 
 // The segment that a run takes, if stops are pending and the path is open.
-fn next_segment(path: PrintPath, trade: LastPrice, pending: u64) -> NextSegment
-    ensures { told_next result ≡ cond (eqb pending 0 || not path.«open») none (some (segment_of path trade)) }
+fn next_segment(path: PrintPath, trade: Option<Price>, pending: u64) -> Option<PrintSegment>
+    ensures { result ≡ cond (eqb pending 0 || not path.«open») None (Some (segment_of path trade)) }
 {
     if pending == 0 {
-        return NextSegment::None;
+        return None;
     }
     let taken = taken(path, trade);
     taken.segment
@@ -32,26 +30,26 @@ pub fn run_stop_triggers(
     path: PrintPath,
     settings: Settings,
     script: &[u64],
-    trade: LastPrice,
+    trade: Option<Price>,
     elected: &mut [ElectedWords],
 ) -> StopRun
     ensures { let o = run_call settings script.now trade s.old (length elected.old) path in
-        (told_pass result.answer ≡ o.answer)
+        (told_answer result.answer ≡ o.answer)
         × (s.new ≡ o.words)
         × (elected.new ≡ written (map elected_words o.elected) elected.old)
         × (result.path ≡ o.path) }
 {
     let verdict = ask_pass(&s[..], script, elected.len());
     match verdict {
-        Verdict::Refused(e) => StopRun {
-            answer: PassAnswer::Err(e),
+        Err(e) => StopRun {
+            answer: Err(e),
             path: path,
         },
-        Verdict::Accepted => {
+        Ok(()) => {
             let next = next_segment(path, trade, s[1]);
-            let NextSegment::Next(prints) = next else {
+            let Some(prints) = next else {
                 return StopRun {
-                    answer: PassAnswer::Ok(PassCounts {
+                    answer: Ok(PassCounts {
                         moves: 0,
                         elected: 0,
                         used: 0,
@@ -61,7 +59,7 @@ pub fn run_stop_triggers(
             };
             let counts = pass_over(s, settings, script, prints, elected);
             StopRun {
-                answer: PassAnswer::Ok(counts),
+                answer: Ok(counts),
                 path: closed(path),
             }
         }

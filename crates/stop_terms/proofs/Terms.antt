@@ -2,7 +2,6 @@
 use Prim.Native.Nat.{ℕ, ◌≤◌, ◌+◌, ◌-◌, ◌^◌}
 use mathlib.Core.Path.{◌≡◌, refl}
 use mathlib.Core.Bool.{true, false, not, cond}
-use mathlib.Core.Option.{Option, none, some}
 use native.Mathlib.Omega.{arith}
 use borrow.Author.Tests.{ltb-true, ltb-false, leb-true, lt-ltb, le-ltb, le-leb, lt-leb}
 use borrow.Table.Steps.{cases}
@@ -12,6 +11,7 @@ use Rattle.pricelevel.specs.declared.Side.{Side}
 use Rattle.pricelevel.specs.declared.Side.TheVariants.{Buy, Sell}
 use Rattle.stop_terms.specs.declared.StopTerms.{StopTerms}
 use Rattle.stop_terms.specs.Terms.{behind, candidate, tightened, ratcheted, trailed_at, elects, beyond, inconsistency_of, inconsistency_number}
+use Rattle.std.specs.Prelude.{None, Option, Some}
 
 pub ruleset tests = (ltb-true, ltb-false, lt-ltb, le-ltb)
 
@@ -62,22 +62,22 @@ elects_past Buy price stop =
 -- The candidate: it lies behind the price, a later price in the same direction undoes an earlier one, and a stop only
 -- tightens.
 
-pub tightened_past : (s : Side) (stop c : ℕ) → behind s stop c ≡ true → tightened s stop (some c) ≡ c
+pub tightened_past : (s : Side) (stop c : ℕ) → behind s stop c ≡ true → tightened s stop (Some c) ≡ c
 unfolding behind tightened
 tightened_past Sell stop c h = omega (arith, tests)
 tightened_past Buy stop c h = omega (arith, tests)
 
-pub tightened_kept : (s : Side) (stop c : ℕ) → behind s stop c ≡ false → tightened s stop (some c) ≡ stop
+pub tightened_kept : (s : Side) (stop c : ℕ) → behind s stop c ≡ false → tightened s stop (Some c) ≡ stop
 unfolding behind tightened
 tightened_kept Sell stop c h = omega (arith, tests)
 tightened_kept Buy stop c h = omega (arith, tests)
 
 pub tightened_only : (s : Side) (stop : ℕ) (c : Option ℕ) → behind s (tightened s stop c) stop ≡ false
 unfolding behind tightened
-tightened_only Sell stop none = omega (arith, tests)
-tightened_only Sell stop (some c) = omega (arith, tests)
-tightened_only Buy stop none = omega (arith, tests)
-tightened_only Buy stop (some c) = omega (arith, tests)
+tightened_only Sell stop None = omega (arith, tests)
+tightened_only Sell stop (Some c) = omega (arith, tests)
+tightened_only Buy stop None = omega (arith, tests)
+tightened_only Buy stop (Some c) = omega (arith, tests)
 
 -- a stop that a candidate does not tighten is as it was
 pub tightened_still : (s : Side) (stop : ℕ) (c : Option ℕ) → behind s stop (tightened s stop c) ≡ false
@@ -85,23 +85,23 @@ pub tightened_still : (s : Side) (stop : ℕ) (c : Option ℕ) → behind s stop
 tightened_still s stop c h = past_antisym s (tightened s stop c) stop (tightened_only s stop c) h
 
 -- it is tightened exactly if it is behind the candidate
-pub tightened-behind-candidate : (s : Side) (stop c : ℕ) → behind s stop (tightened s stop (some c)) ≡ behind s stop c
+pub tightened-behind-candidate : (s : Side) (stop c : ℕ) → behind s stop (tightened s stop (Some c)) ≡ behind s stop c
 tightened-behind-candidate s stop c = cases (behind s stop c)
     (λ e. rw (tightened_past s stop c e))
     (λ e. rw (tightened_kept s stop c e, e) (behind_irrefl s stop))
 
-pub candidate-behind : (s : Side) (trail price c : ℕ) → 1 ≤ trail → candidate s trail price ≡ some c
+pub candidate-behind : (s : Side) (trail price c : ℕ) → 1 ≤ trail → candidate s trail price ≡ Some c
     → behind s c price ≡ true
 unfolding behind candidate
 candidate-behind Sell trail price c h e = cases (leb trail price)
-    (λ (f : leb trail price ≡ true). let g : some (price - trail) ≡ some c = rw f at e in
+    (λ (f : leb trail price ≡ true). let g : Some (price - trail) ≡ Some c = rw f at e in
     let q : price - trail ≡ c = cc in omega (arith, tests, leb-true))
-    (λ (f : leb trail price ≡ false). let g : none ≡ some c = rw f at e in let z : ◌≡◌ {A = ℕ} 0 1 = cc in
+    (λ (f : leb trail price ≡ false). let g : None ≡ Some c = rw f at e in let z : ◌≡◌ {A = ℕ} 0 1 = cc in
     absurd (omega arith))
 candidate-behind Buy trail price c h e = cases (ltb (price + trail) (2 ^ 64))
-    (λ (f : ltb (price + trail) (2 ^ 64) ≡ true). let g : some (price + trail) ≡ some c = rw f at e in
+    (λ (f : ltb (price + trail) (2 ^ 64) ≡ true). let g : Some (price + trail) ≡ Some c = rw f at e in
     let q : price + trail ≡ c = cc in omega (arith, tests))
-    (λ (f : ltb (price + trail) (2 ^ 64) ≡ false). let g : none ≡ some c = rw f at e in let z : ◌≡◌ {A = ℕ} 0 1 = cc in
+    (λ (f : ltb (price + trail) (2 ^ 64) ≡ false). let g : None ≡ Some c = rw f at e in let z : ◌≡◌ {A = ℕ} 0 1 = cc in
     absurd (omega arith))
 
 pub candidate_again : (s : Side) (trail p q stop : ℕ) → behind s q p ≡ false
@@ -121,8 +121,8 @@ unfolding tightened
 tightened-behind s trail price stop h k = go (candidate s trail price) refl
   where
     go : (c : Option ℕ) → candidate s trail price ≡ c → behind s (tightened s stop c) price ≡ true
-    go none e = k
-    go (some c) e = cases (behind s stop c)
+    go None e = k
+    go (Some c) e = cases (behind s stop c)
         (λ f. rw (tightened_past s stop c f) (candidate-behind s trail price c h e))
         (λ f. rw (tightened_kept s stop c f) k)
 
@@ -153,14 +153,14 @@ trailed_at_moved t price stop c h e f =
 ------------------------------------------------------------------------
 -- The number of an inconsistency: 5 for a zero trail, 6 for a stop beyond its watermark, on either side.
 
-beyond-number : (s : Side) → inconsistency_number (beyond s) ≡ some 6
+beyond-number : (s : Side) → inconsistency_number (Some (beyond s)) ≡ Some 6
 unfolding beyond inconsistency_number
 beyond-number Sell = refl
 beyond-number Buy = refl
 
 pub inconsistency-number : (t : StopTerms)
-    → inconsistency_number (inconsistency_of t) ≡ cond (eqb t.trail 0) (some 5)
-    (cond (behind t.side t.watermark.0 t.stop.0) (some 6) none)
+    → inconsistency_number (inconsistency_of t) ≡ cond (eqb t.trail 0) (Some 5)
+    (cond (behind t.side t.watermark.0 t.stop.0) (Some 6) None)
 unfolding inconsistency_of inconsistency_number
 inconsistency-number t = cases (eqb t.trail 0) (λ e. rw e)
     (λ e. cases (behind t.side t.watermark.0 t.stop.0) (λ f. rw (e, f) (beyond-number t.side))

@@ -1,11 +1,8 @@
 -- The three questions that a stop's terms answer: document 01, A stop's terms.
-use Rattle.std.specs.Prelude.{ℕ, ◌+◌, ◌-◌, ◌^◌, min, max, Bool, cond, leb, ltb, eqb}
-use Rattle.std.proofs.Math.Option.{Option, none, some}
+use Rattle.std.specs.Prelude.{ℕ, ◌+◌, ◌-◌, ◌^◌, min, max, Bool, cond, leb, ltb, eqb, None, Option, Some}
 use Rattle.pricelevel.specs.declared.Price.{Price}
 use Rattle.pricelevel.specs.declared.Side.{Side}
 use Rattle.pricelevel.specs.declared.Side.TheVariants.{Buy, Sell}
-use Rattle.stop_terms.specs.declared.Candidate.{Candidate}
-use Rattle.stop_terms.specs.declared.Candidate.TheVariants as at
 use Rattle.stop_terms.specs.declared.Inconsistency.{Inconsistency}
 use Rattle.stop_terms.specs.declared.Inconsistency.TheVariants as terms
 use Rattle.stop_terms.specs.declared.StopTerms.{StopTerms}
@@ -18,14 +15,14 @@ behind Buy a b = ltb b a
 -- where a price would put a stop that trails it: a sell's at price − trail, a buy's at price + trail; at no place, if
 -- trail > price or the sum is 2^64 or more
 unfoldable pub candidate : Side → ℕ → ℕ → Option ℕ
-candidate Sell trail price = cond (leb trail price) (some (price - trail)) none
-candidate Buy trail price = cond (ltb (price + trail) (2 ^ 64)) (some (price + trail)) none
+candidate Sell trail price = cond (leb trail price) (Some (price - trail)) None
+candidate Buy trail price = cond (ltb (price + trail) (2 ^ 64)) (Some (price + trail)) None
 
 -- a sell's stop becomes the larger of stop and candidate, a buy's the smaller; no candidate keeps the stop
 unfoldable pub tightened : Side → ℕ → Option ℕ → ℕ
-tightened side stop none = stop
-tightened Sell stop (some c) = max stop c
-tightened Buy stop (some c) = min stop c
+tightened side stop None = stop
+tightened Sell stop (Some c) = max stop c
+tightened Buy stop (Some c) = min stop c
 
 -- the watermark is moved to the price, and the stop tightened
 unfoldable pub ratcheted : StopTerms → Price → StopTerms
@@ -53,18 +50,18 @@ unfoldable pub beyond : Side → Inconsistency
 beyond Sell = terms.SellAboveWatermark
 beyond Buy = terms.BuyBelowWatermark
 
-unfoldable pub inconsistency_of : StopTerms → Inconsistency
+unfoldable pub inconsistency_of : StopTerms → Option Inconsistency
 inconsistency_of t =
-    cond (eqb t.trail 0) terms.ZeroTrail (cond (behind t.side t.watermark.0 t.stop.0) (beyond t.side) terms.None)
+    cond (eqb t.trail 0) (Some terms.ZeroTrail) (cond (behind t.side t.watermark.0 t.stop.0) (Some (beyond t.side)) None)
 
 -- the number of the question that it answers no
-unfoldable pub inconsistency_number : Inconsistency → Option ℕ
-inconsistency_number terms.None = none
-inconsistency_number terms.ZeroTrail = some 5
-inconsistency_number terms.SellAboveWatermark = some 6
-inconsistency_number terms.BuyBelowWatermark = some 6
+unfoldable pub inconsistency_number : Option Inconsistency → Option ℕ
+inconsistency_number None = None
+inconsistency_number (Some terms.ZeroTrail) = Some 5
+inconsistency_number (Some terms.SellAboveWatermark) = Some 6
+inconsistency_number (Some terms.BuyBelowWatermark) = Some 6
 
 -- the code's answer in these terms
-unfoldable pub told_candidate : Candidate → Option ℕ
-told_candidate at.None = none
-told_candidate (at.At price) = some price.0
+unfoldable pub told_candidate : Option Price → Option ℕ
+told_candidate None = None
+told_candidate (Some price) = Some price.0

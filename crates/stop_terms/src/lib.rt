@@ -17,17 +17,9 @@ pub struct StopTerms {
     pub trail: u64,
 }
 
-// Where a trade would put a stop that trails it: nowhere, if that is no price.
-#[derive(Clone, Copy)]
-pub enum Candidate {
-    None,
-    At(Price),
-}
-
 // What is inconsistent in a stop's terms.
 #[derive(Clone, Copy)]
 pub enum Inconsistency {
-    None,
     ZeroTrail,
     SellAboveWatermark,
     BuyBelowWatermark,
@@ -44,21 +36,21 @@ pub fn is_behind(side: Side, price: Price, other: Price) -> bool
 }
 
 // The stop price that a trade at this price leads to, the trail behind it.
-pub fn candidate_at(side: Side, trail: u64, price: Price) -> Candidate
+pub fn candidate_at(side: Side, trail: u64, price: Price) -> Option<Price>
     ensures { told_candidate result ≡ candidate side trail price.0 }
 {
     match side {
         Side::Sell => {
             if price.0 < trail {
-                return Candidate::None;
+                return None;
             }
-            Candidate::At(Price(price.0 - trail))
+            Some(Price(price.0 - trail))
         }
         Side::Buy => {
             if 0xffff_ffff_ffff_ffff - trail < price.0 {
-                return Candidate::None;
+                return None;
             }
-            Candidate::At(Price(price.0 + trail))
+            Some(Price(price.0 + trail))
         }
     }
 }
@@ -95,35 +87,35 @@ impl StopTerms {
     }
 
     // The first inconsistency in the terms: a zero trail (5), or a stop on the wrong side of its watermark (6).
-    pub fn inconsistency(self) -> Inconsistency
+    pub fn inconsistency(self) -> Option<Inconsistency>
         ensures { result ≡ inconsistency_of self }
     {
         if self.trail == 0 {
-            return Inconsistency::ZeroTrail;
+            return Some(Inconsistency::ZeroTrail);
         }
         let side = self.side;
         match side {
             Side::Sell => {
                 if self.stop.0 > self.watermark.0 {
-                    return Inconsistency::SellAboveWatermark;
+                    return Some(Inconsistency::SellAboveWatermark);
                 }
-                Inconsistency::None
+                None
             }
             Side::Buy => {
                 if self.stop.0 < self.watermark.0 {
-                    return Inconsistency::BuyBelowWatermark;
+                    return Some(Inconsistency::BuyBelowWatermark);
                 }
-                Inconsistency::None
+                None
             }
         }
     }
 }
 
 // The stop price after a candidate: the tighter of the two.
-fn tighten(side: Side, stop: Price, at: Candidate) -> Price
+fn tighten(side: Side, stop: Price, at: Option<Price>) -> Price
     ensures { result.0 ≡ tightened side stop.0 (told_candidate at) }
 {
-    let Candidate::At(price) = at else {
+    let Some(price) = at else {
         return stop;
     };
     if is_behind(side, stop, price) {

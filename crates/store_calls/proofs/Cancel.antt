@@ -3,7 +3,6 @@ use Prim.Native.Nat.{ℕ}
 use mathlib.Core.Path.{◌≡◌, sym, ap, ◌∙◌}
 use mathlib.Core.Bool.{true, false}
 use mathlib.Core.List.{List}
-use mathlib.Core.Option.{none, some}
 use lib.ListN.{get_or}
 use Rattle.error.specs.Answer.{refused, accepted}
 use Rattle.pricelevel.specs.declared.Id.{Id}
@@ -13,6 +12,7 @@ use Rattle.book.specs.Words.{entry_at, book_of, well_formed}
 use Rattle.book.specs.declared.StopEntry.{StopEntry}
 use Rattle.pending_stops.proofs.Found.{beyond, stored_words, Found, found_entry}
 use Rattle.pending_stops.specs.Stored.{Stored}
+use Rattle.std.specs.Prelude.{None, Some}
 
 ------------------------------------------------------------------------
 -- Cancel
@@ -24,7 +24,7 @@ pub cancel_unformed : (id : Id) (w : List ℕ) → well_formed w ≡ false → c
 unfolding cancel first_no decide
 cancel_unformed id w e = rw e
 
-pub cancel-missing : (id : Id) (w : List ℕ) → well_formed w ≡ true → lookup id (book_of w) ≡ none → cancel id w ≡ record {
+pub cancel-missing : (id : Id) (w : List ℕ) → well_formed w ≡ true → lookup id (book_of w) ≡ None → cancel id w ≡ record {
   answer = refused 12;
   words = w;
 }
@@ -60,13 +60,13 @@ pub find_unformed : (id : Id) (w : List ℕ) → well_formed w ≡ false → ref
 unfolding find first_no decide
 find_unformed id w e = rw e
 
-pub find-missing : (id : Id) (w : List ℕ) → well_formed w ≡ true → lookup id (book_of w) ≡ none
-    → accepted none ≡ find id w
+pub find-missing : (id : Id) (w : List ℕ) → well_formed w ≡ true → lookup id (book_of w) ≡ None
+    → accepted None ≡ find id w
 unfolding find first_no decide entry_of
 find-missing id w e q = rw (e, q)
 
 pub find_found : (id : Id) (w : List ℕ) (e : well_formed w ≡ true) (i : ℕ) (f : Found id (book_of w) i) (t : StopEntry)
     → t ≡ entry_at w i
-    → accepted (some t) ≡ find id w
+    → accepted (Some t) ≡ find id w
 unfolding find first_no decide entry_of
 find_found id w e i f t q = rw (e, f.looked, q ∙ found_entry w e id i f)

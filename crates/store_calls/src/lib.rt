@@ -5,10 +5,10 @@
 ghost use Rattle.std.specs.Prelude.{◌≡◌, ◌-◌};
 ghost use Rattle.book.specs.Path.{closed};
 ghost use Rattle.book.specs.Store.{clear, find, cancel, pending_quantity};
-ghost use Rattle.book.specs.Answers.{told_layout, told_stop, told_find, told_quantity};
+ghost use Rattle.error.specs.Answer.{told_answer};
 
-use book::{Cleared, FindAnswer, LayoutAnswer, PrintPath, QuantityAnswer, StopAnswer};
-use error::Refusal;
+use book::{Cleared, PrintPath, StopEntry, Totals};
+use error::{Ask, Refusal};
 use form::well_formed;
 use pending_stops::vacate;
 use pending_totals::pending_quantity;
@@ -21,53 +21,51 @@ use stored_stops::{entry_at, find_id};
 // Cancel and change
 
 // Takes the pending stop of an identity out. Refused: the store is not well formed (1), no such stop (12).
-pub fn cancel_pending_stop(s: &mut [u64], id: Id) -> StopAnswer
-    ensures result_value { told_stop result ≡ (cancel id s.old).answer }
+pub fn cancel_pending_stop(s: &mut [u64], id: Id) -> Result<StopEntry, Refusal>
+    ensures result_value { told_answer result ≡ (cancel id s.old).answer }
     ensures s_after { s.new ≡ (cancel id s.old).words }
 {
-    if !well_formed(&s[..]) {
-        return StopAnswer::Err(Refusal::StoreNotWellFormed);
-    }
+    Ok(()).ask(well_formed(&s[..]), Refusal::StoreNotWellFormed)?;
     let n = s[0];
     let i = find_id(&s[..], n, id);
     if i == 0 {
-        return StopAnswer::Err(Refusal::OrderNotFound);
+        return Err(Refusal::OrderNotFound);
     }
     let t = entry_at(&s[..], n, i);
     let terms = t.terms;
     let side = terms.side;
     vacate(s, n, i, side);
-    StopAnswer::Ok(t)
+    Ok(t)
 }
 
 // ---------------------------------------------------------------------
 // Search, clear, totals
 
 // The pending stop of an identity, if there is one. The store is only read. Refused: it is not well formed (1).
-pub fn pending_stop_order(s: &[u64], id: Id) -> FindAnswer
-    ensures { told_find result ≡ find id s.now }
+pub fn pending_stop_order(s: &[u64], id: Id) -> Result<Option<StopEntry>, Refusal>
+    ensures { told_answer result ≡ find id s.now }
 {
     if !well_formed(s) {
-        return FindAnswer::Err(Refusal::StoreNotWellFormed);
+        return Err(Refusal::StoreNotWellFormed);
     }
     let n = s[0];
     let at = find_id(s, n, id);
     if at == 0 {
-        return FindAnswer::None;
+        return Ok(None);
     }
-    FindAnswer::Found(entry_at(s, n, at))
+    Ok(Some(entry_at(s, n, at)))
 }
 
 // Lays the store out anew with the same number of records and tick, and resets the path. Refused: it is not well formed
 // (1).
 pub fn clear(s: &mut [u64], path: PrintPath) -> Cleared
-    ensures answer_value { told_layout result.answer ≡ (clear s.old path).answer }
+    ensures answer_value { told_answer result.answer ≡ (clear s.old path).answer }
     ensures path_value { result.path ≡ (clear s.old path).path }
     ensures s_after { s.new ≡ (clear s.old path).words }
 {
     if !well_formed(&s[..]) {
         return Cleared {
-            answer: LayoutAnswer::Err(Refusal::StoreNotWellFormed),
+            answer: Err(Refusal::StoreNotWellFormed),
             path: path,
         };
     }
@@ -76,19 +74,16 @@ pub fn clear(s: &mut [u64], path: PrintPath) -> Cleared
     lay_out(s, n, tick);
     let reset = closed(path);
     Cleared {
-        answer: LayoutAnswer::Ok,
+        answer: Ok(()),
         path: reset,
     }
 }
 
 // The pending quantity of each side. The store is only read. Refused: it is not well formed (1).
-pub fn pending_stop_quantity(s: &[u64]) -> QuantityAnswer
-    ensures { told_quantity result ≡ pending_quantity s.now }
+pub fn pending_stop_quantity(s: &[u64]) -> Result<Totals, Refusal>
+    ensures { told_answer result ≡ pending_quantity s.now }
 {
-    if !well_formed(s) {
-        return QuantityAnswer::Err(Refusal::StoreNotWellFormed);
-    }
+    Ok(()).ask(well_formed(s), Refusal::StoreNotWellFormed)?;
     let n = s[0];
-    let sums = pending_quantity(s, n);
-    QuantityAnswer::Ok(sums)
+    Ok(pending_quantity(s, n))
 }

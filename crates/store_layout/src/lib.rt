@@ -7,9 +7,9 @@ ghost use Rattle.book.specs.Store.{stored, empty_book, lay_out};
 ghost use Rattle.book.specs.Words.{next_in, header};
 ghost use Rattle.book.specs.Sizes.{most_records, store_length};
 ghost use Rattle.chains.specs.Records.{Room};
-ghost use Rattle.book.specs.Answers.{told_layout};
+ghost use Rattle.error.specs.Answer.{told_answer};
 
-use book::{HEADER_WORDS, LayoutAnswer, MOST_RECORDS, RECORD_WORDS};
+use book::{HEADER_WORDS, MOST_RECORDS, RECORD_WORDS};
 use error::Refusal;
 use record_writer::write_free;
 use records::put_words;
@@ -40,11 +40,9 @@ pub fn lay_out(s: &mut [u64], n: u64, tick: u64)
     ensures { s.new ≡ stored n (empty_book n tick) s.old }
 {
     put_words(s, 0, &empty_header(n, tick));
-    let mut i: u64 = 1;
-    while i <= n {
+    for i in 1..n + 1 {
         let next = next_free(n, i);
         write_free(s, n, i, next);
-        i += 1;
     }
 }
 
@@ -62,13 +60,13 @@ fn has_room(n: u64, words: usize) -> bool
 }
 
 // Lays out an empty store of n records. Refused: n is not from 1 to MOST_RECORDS, or the slice is too short for them (2).
-pub fn layout_store(s: &mut [u64], n: u64, tick: u64) -> LayoutAnswer
-    ensures result_value { told_layout result ≡ (lay_out n tick s.old).answer }
+pub fn layout_store(s: &mut [u64], n: u64, tick: u64) -> Result<(), Refusal>
+    ensures result_value { told_answer result ≡ (lay_out n tick s.old).answer }
     ensures s_after { s.new ≡ (lay_out n tick s.old).words }
 {
     if !has_room(n, s.len()) {
-        return LayoutAnswer::Err(Refusal::LayoutOutOfRange);
+        return Err(Refusal::LayoutOutOfRange);
     }
     lay_out(s, n, tick);
-    LayoutAnswer::Ok
+    Ok(())
 }

@@ -3,7 +3,6 @@ use Prim.Native.Nat.{ℕ, ◌+◌, ◌-◌, ◌≤◌, ◌<◌}
 use mathlib.Core.Path.{◌≡◌, refl, sym, ◌∙◌}
 use mathlib.Core.Bool.{Bool, true, false, cond}
 use mathlib.Core.List.{List, [], ◌∷◌, ◌++◌}
-use mathlib.Core.Option.{some}
 use native.Mathlib.Omega.{arith}
 use borrow.Author.Tests.{eq-eqb, ne_eqb}
 use borrow.Table.Steps.{cases}
@@ -31,6 +30,7 @@ use Rattle.store_words.specs.Search.{first_named, index_or0}
 use Rattle.book.specs.Sizes.{next_by_stop, store_length}
 use Rattle.store_words.proofs.ChainsOf.{well_formed_room, well_formed_linked}
 use Rattle.book.proofs.Slots.{slot_at_entry, slots_at_at}
+use Rattle.std.specs.Prelude.{Some}
 
 ------------------------------------------------------------------------
 -- One link
@@ -81,7 +81,7 @@ module _ (w : List ℕ) (id : Id) where
   first_named-named (p ∷ l) h = rw h.0.1 (go (same_id id p.entry.id) (first_named-named l h.1))
     where
       go : (t : Bool) → first_named w id (indices l) ≡ index_or0 (named id l)
-          → cond t p.index (first_named w id (indices l)) ≡ index_or0 (cond t (some p) (named id l))
+          → cond t p.index (first_named w id (indices l)) ≡ index_or0 (cond t (Some p) (named id l))
       go true e = refl
       go false e = e
 

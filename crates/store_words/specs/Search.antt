@@ -1,6 +1,5 @@
 -- The search for an identity along the records of a chain: document 01, The store.
-use Rattle.std.specs.Prelude.{ℕ, cond, List, [], ◌∷◌}
-use Rattle.std.proofs.Math.Option.{Option, none, some}
+use Rattle.std.specs.Prelude.{ℕ, cond, List, [], ◌∷◌, None, Option, Some}
 use Rattle.pricelevel.specs.Identity.{same_id}
 use Rattle.pricelevel.specs.declared.Id.{Id}
 use Rattle.book.specs.Book.{Pending}
@@ -13,5 +12,5 @@ first_named w id (i ∷ l) = cond (same_id id (entry_at w i).id) i (first_named 
 
 -- the record of what a search found, or 0
 unfoldable pub index_or0 : Option Pending → ℕ
-index_or0 none = 0
-index_or0 (some p) = p.index
+index_or0 None = 0
+index_or0 (Some p) = p.index

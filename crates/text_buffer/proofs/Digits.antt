@@ -3,11 +3,10 @@ use Prim.Native.Nat.{ℕ, zero, suc, ◌+◌, ◌-◌, ◌*◌, ◌/◌, ◌%◌
 use mathlib.Core.Path.{◌≡◌, refl, sym, ap, subst, ◌∙◌}
 use mathlib.Core.Bool.{Bool, true, false, cond}
 use mathlib.Core.List.{List, [], ◌∷◌, ◌++◌, append_assoc, append-nil}
-use native.Mathlib.Nat.{pow-suc, pow-zero, pow-succ', div-div-eq-div-mul, div-one, pow-le-pow_right, div-le_self, lt_of_le_of_lt, mul_assoc, mul-add-div_right, mul-add-mod_self_right, div-eq_of_lt}
-use native.Mathlib.Numerals.{add-one}
+use native.Mathlib.Nat.{pow-suc, pow-zero, pow-succ', div-div-eq-div-mul, div-one, mul-le-mul_right, div-le_self, lt_of_le_of_lt, mul_assoc, mul-add-div_right, mul-add-mod_self_right, div-eq_of_lt}
 use native.Mathlib.Omega.{arith}
 use borrow.Author.Tests.{lt-ltb, le-ltb}
-use lib.Dec.{ltb, lit<}
+use lib.Dec.{ltb}
 use lib.ListN.{length, set, length-append}
 use lib.Seq.{sets}
 use Rattle.text_buffer.specs.Digits.{digits, decimal_letter, width, decimal_of}
@@ -74,41 +73,30 @@ pow_positive : (j : ℕ) → 0 < 10 ^ j
 pow_positive zero = omega (arith, pow-zero 10)
 pow_positive (suc j) = omega (arith, pow-suc 10 j, pow_positive j)
 
--- the powers of ten that a word holds
-pub power_below : (k : ℕ) → k ≤ 19 → 10 ^ k ≤ 10000000000000000000
-power_below k h = pow-le-pow_right (lit< tt) h
-
-pub power_next : (p k : ℕ) → p ≡ 10 ^ k → p * 10 ≡ 10 ^ (k + 1)
-power_next p k e = rw (add-one, pow-suc 10 k, e)
-
-pub power_same : (p k n : ℕ) → p ≡ 10 ^ k → p ≤ n → 10 ^ ((k + 1) - 1) ≤ n
-power_same p k n e h =
-    let one : (k + 1) - 1 ≡ k = omega arith in
-    rw (one, ← e) h
-
--- k digits are as many as `width` says: 10^(k - 1) or more, but for one digit, and below 10^k
-pub width_is : (f n k : ℕ) → 0 < k → n < 10 ^ k → (1 < k → 10 ^ (k - 1) ≤ n) → k ≤ suc f → k ≡ width f n
+-- a number of one digit, and a number of more
+pub width_one : (f n : ℕ) → n < 10 → width f n ≡ 1
 unfolding width
-width_is zero n k pos below above le = omega (arith, pos)
-width_is (suc f) n zero pos below above le = absurd (omega (arith, pos))
-width_is (suc f) n (suc zero) pos below above le =
-    let b : n < 10 = omega (arith, below, pow-suc 10 0, pow-zero 10) in
-    rw (lt-ltb n 10 b)
-width_is (suc f) n (suc (suc j)) pos below above le =
-    let one : suc (suc j) - 1 ≡ suc j = omega arith in
-    let low : 10 ^ suc j ≤ n = subst (λ (i : ℕ). 10 ^ i ≤ n) one (above (omega arith)) in
-    let ge : 10 ≤ n = omega (arith, low, pow-suc 10 j, pow_positive j) in
-    let less : n / 10 < 10 ^ suc j = omega (arith, below, pow-suc 10 (suc j)) in
-    let two : suc j - 1 ≡ j = omega arith in
-    let next : 10 ^ j ≤ n / 10 = omega (arith, low, pow-suc 10 j) in
-    let least : 1 < suc j → 10 ^ (suc j - 1) ≤ n / 10 = λ i. rw two next in
-    rw (le-ltb n 10 ge) (ap suc (width_is f (n / 10) (suc j) (omega arith) less least (omega arith)))
+width_one zero n h = refl
+width_one (suc f) n h = rw (lt-ltb n 10 h)
 
--- the most digits of a word
-pub width_most : (n p k : ℕ) → p ≡ 10 ^ k → k ≡ 19 → p ≤ n → n < 18446744073709551616 → 20 ≡ width 40 n
-width_most n p k e is h fits =
-    let low : 10 ^ 19 ≤ n = subst (λ (i : ℕ). 10 ^ i ≤ n) is (rw e at h) in
-    width_is 40 n 20 (omega arith) (omega arith) (λ i. low) (omega arith)
+pub width_turn : (k r w : ℕ) → k < 20 → 10 ≤ r → k + width (41 - k) r ≡ w → k + 1 + width (41 - (k + 1)) (r / 10) ≡ w
+unfolding width
+width_turn k r w h ge e =
+    let f : 41 - k ≡ suc (40 - k) = omega arith in
+    let one : 41 - (k + 1) ≡ 40 - k = omega arith in
+    let d : width (41 - k) r ≡ suc (width (40 - k) (r / 10)) = rw (f, le-ltb r 10 ge) in
+    rw one (omega (arith, d, e))
+
+-- what is left of a number, above the digits counted
+pub power_turn : (k r n : ℕ) → 1 ≤ k → r * 10 ^ (k - 1) ≤ n → r / 10 * 10 ^ (k + 1 - 1) ≤ n
+power_turn k r n h le =
+    let e : k + 1 - 1 ≡ suc (k - 1) = omega arith in
+    let tens : r / 10 * 10 ≤ r = omega arith in
+    rw (e, pow-suc 10 (k - 1)) (omega (arith, le, mul-le-mul_right (10 ^ (k - 1)) tens))
+
+-- of the most digits of a word the first is left
+pub power_last : (k r n : ℕ) → k ≡ 20 → r * 10 ^ (k - 1) ≤ n → n < 18446744073709551616 → r < 10
+power_last k r n e le fits = omega (arith, rw e at le)
 
 width_test : (f n : ℕ) (b : Bool) → ltb n 10 ≡ b → (width f (n / 10) ≡ width (suc f) (n / 10)) → width (suc f) n ≡ width (suc (suc f)) n
 unfolding width

@@ -5,5 +5,5 @@
 mod decimal;
 mod text;
 
-pub use decimal::{put_decimal, put_digits};
+pub use decimal::{put_decimal, put_digits, put_in_base};
 pub use text::{put_byte, put_text};

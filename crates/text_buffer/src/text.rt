@@ -16,10 +16,8 @@ pub fn put_text(buf: &mut [u8], at: usize, text: &[u8]) -> usize
     requires { at + length text.now < 2 ^ 64 }
     ensures { Put buf.old at text.now buf.new result }
 {
-    let mut i = 0;
-    while i < text.len() {
-        put_byte(buf, at + i, text[i]);
-        i += 1;
+    for (i, b) in text.iter().enumerate() {
+        put_byte(buf, at + i, *b);
     }
     at + text.len()
 }

@@ -15,24 +15,20 @@ pub fn put_form(buf: &mut [u8], at: usize, form: &[u8], values: &[u64]) -> usize
     ensures put { Put buf.old at (form_of form.now values.now) buf.new result }
     ensures upper_bound { result ≤ at + 50 * length form.now }
 {
-    let mut i: usize = 0;
     let mut v: usize = 0;
     let mut next = at;
-    while i < form.len() {
-        let b = form[i];
-        if b != b'%' {
-            put_byte(buf, next, b);
+    let mut marked = false;
+    for b in form {
+        if marked {
+            next = put_piece(buf, next, *b, values, v);
+            v += takes(*b);
+            marked = false;
+        } else if *b == b'%' {
+            marked = true;
+        } else {
+            put_byte(buf, next, *b);
             next += 1;
-            i += 1;
-            continue;
         }
-        if i + 1 == form.len() {
-            return next;
-        }
-        let letter = form[i + 1];
-        next = put_piece(buf, next, letter, values, v);
-        v += takes(letter);
-        i += 2;
     }
     next
 }

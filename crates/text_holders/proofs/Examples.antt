@@ -1,6 +1,6 @@
 -- Holders as theorems, which the checker computes.
 use mathlib.Core.Path.{◌≡◌, refl}
-use mathlib.Core.List.{List, [], ◌∷◌}
+use mathlib.Core.List.{[], ◌∷◌}
 use Rattle.text_words.specs.Words.{word_start, word_end, run, separates, spells}
 use Rattle.text_numbers.specs.Steps.{bad, got, missing}
 use Rattle.text_holders.specs.Holders.{holder_at, holder_or_none, holder_between, word_at, packed, too_long}

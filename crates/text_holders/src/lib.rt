@@ -11,10 +11,7 @@ use text_words::next_word;
 fn byte_at(text: &[u8], at: usize) -> u64
     ensures { (result ≡ get_or text.now at 0) × (result < 256) }
 {
-    if at < text.len() {
-        return text[at] as u64;
-    }
-    0
+    u64::from(text.get(at).copied().unwrap_or(0))
 }
 
 // Eight bytes as a word, the first the highest.
@@ -23,17 +20,14 @@ fn word_at(text: &[u8], from: usize) -> u64
     ensures { result ≡ word_at text.now from }
 {
     let mut v: u64 = 0;
-    let mut at = from;
-    let mut left: u64 = 8;
-    while left > 0 {
+    for at in from..from + 8 {
         v = v % 72057594037927936 * 256 + byte_at(text, at);
-        at += 1;
-        left -= 1;
     }
     v
 }
 
 // The holder between two places; `none` where there is no word.
+#[tactic(auto, unfolding(crate::specs::Holders::holder_between))]
 fn holder_between(none: Step, line: &[u8], start: usize, end: usize) -> Step
     requires { (start ≤ end) × (end ≤ length line.now) }
     ensures { result ≡ holder_between none line.now start end }

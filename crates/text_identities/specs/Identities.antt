@@ -1,5 +1,5 @@
 -- Identities: a UUID of 36 characters, a ULID of 26, or a number.
-use Rattle.std.specs.Prelude.{ℕ, ◌+◌, ◌-◌, ◌*◌, ◌/◌, ◌%◌, Bool, true, false, cond, not, List, [], ◌∷◌, eqb, leb, length}
+use Rattle.std.specs.Prelude.{ℕ, ◌+◌, ◌-◌, ◌*◌, ◌/◌, ◌%◌, cond, not, List, [], ◌∷◌, eqb, leb, length, Option, Some, None}
 use Rattle.text_words.specs.Words.{word_start, word_end, between, run, folded}
 use Rattle.text_numbers.specs.Numbers.{number_between}
 use Rattle.text_numbers.specs.Steps.{missing, bad, got}
@@ -24,37 +24,38 @@ place_in text b = run (λ x. not (eqb x b)) text
 unfoldable pub value_of : ℕ → ℕ
 value_of b = place_in digits (folded b)
 
-abbrev pub spelled : Bool → ℕ → ℕ → Spelled
-spelled good high low = record { good = good; high = high; low = low }
+abbrev pub spelled : ℕ → ℕ → Spelled
+spelled high low = record { high = high; low = low }
 
-abbrev pub spoilt : Spelled
-spoilt = spelled false 0 0
-
--- a digit of four bits and one of five behind 128 bits, the highest bits falling out
-abbrev pub behind_four : Spelled → ℕ → Spelled
-behind_four n d = spelled n.good (n.high % 1152921504606846976 * 16 + n.low / 1152921504606846976) (n.low % 1152921504606846976 * 16 + d)
-
-abbrev pub behind_five : Spelled → ℕ → Spelled
-behind_five n d = spelled n.good (n.high % 576460752303423488 * 32 + n.low / 576460752303423488) (n.low % 576460752303423488 * 32 + d)
+-- a digit of a base behind 128 bits, the highest bits falling out; `top` is 2^64 by the base
+abbrev pub behind : ℕ → ℕ → Spelled → ℕ → Spelled
+behind base top n d = spelled (n.high % top * base + n.low / top) (n.low % top * base + d)
 
 -- A pattern has a letter for each character: '-' stands for itself, 'f' for a hexadecimal digit, 'z' for one of the 32, '7' for one up to 7.
 unfoldable pub most_of : ℕ → ℕ
 most_of p = cond (eqb p 55) 7 (cond (eqb p 102) 15 31)
 
--- what is read with a character behind it, by the pattern's letter
-unfoldable pub with_character : Spelled → ℕ → ℕ → Spelled
+-- what is read with a character behind it, by the pattern's letter; none where it is another one
+unfoldable pub with_character : Spelled → ℕ → ℕ → Option Spelled
 with_character n p b =
-    cond (eqb p 45) (cond (eqb b 45) n spoilt)
-    (cond (leb (value_of b) (most_of p)) (cond (eqb p 102) (behind_four n (value_of b)) (behind_five n (value_of b))) spoilt)
+    cond (eqb p 45) (cond (eqb b 45) (Some n) None)
+    (cond (leb (value_of b) (most_of p))
+    (cond (eqb p 102) (Some (behind 16 1152921504606846976 n (value_of b))) (Some (behind 32 576460752303423488 n (value_of b))))
+    None)
 
-unfoldable pub spelled_from : Spelled → List ℕ → List ℕ → Spelled
+-- the first other character spoils what comes behind it
+abbrev pub character_behind : Option Spelled → ℕ → ℕ → Option Spelled
+character_behind None p b = None
+character_behind (Some n) p b = with_character n p b
+
+unfoldable pub spelled_from : Option Spelled → List ℕ → List ℕ → Option Spelled
 spelled_from n [] text = n
 spelled_from n (p ∷ pattern) [] = n
-spelled_from n (p ∷ pattern) (b ∷ text) = spelled_from (with_character n p b) pattern text
+spelled_from n (p ∷ pattern) (b ∷ text) = spelled_from (character_behind n p b) pattern text
 
 -- a text by a pattern of its length
-unfoldable pub spelled_by : List ℕ → List ℕ → Spelled
-spelled_by pattern text = cond (eqb (length text) (length pattern)) (spelled_from (spelled true 0 0) pattern text) spoilt
+unfoldable pub spelled_by : List ℕ → List ℕ → Option Spelled
+spelled_by pattern text = cond (eqb (length text) (length pattern)) (spelled_from (Some (spelled 0 0)) pattern text) None
 
 -- "ffffffff-ffff-ffff-ffff-ffffffffffff"
 unfoldable pub uuid_pattern : List ℕ
@@ -65,8 +66,9 @@ unfoldable pub ulid_pattern : List ℕ
 ulid_pattern = 55 ∷ 122 ∷ 122 ∷ 122 ∷ 122 ∷ 122 ∷ 122 ∷ 122 ∷ 122 ∷ 122 ∷ 122 ∷ 122 ∷ 122 ∷ 122 ∷ 122 ∷ 122 ∷ 122 ∷ 122 ∷ 122 ∷ 122 ∷ 122 ∷ 122 ∷ 122 ∷ 122 ∷ 122 ∷ 122 ∷ []
 
 -- the kind and the two words between two places, or the fault
-abbrev pub of_spelled : Spelled → ℕ → ℕ → ℕ → ℕ → Step
-of_spelled n kind fault start end = cond n.good (got 3 kind n.high n.low 0 0 end) (bad fault (start + 1) end)
+abbrev pub of_spelled : Option Spelled → ℕ → ℕ → ℕ → ℕ → Step
+of_spelled (Some n) kind fault start end = got 3 kind n.high n.low 0 0 end
+of_spelled None kind fault start end = bad fault (start + 1) end
 
 unfoldable pub patterned : List ℕ → ℕ → ℕ → List ℕ → ℕ → ℕ → Step
 patterned pattern kind fault line start end = of_spelled (spelled_by pattern (between line start end)) kind fault start end

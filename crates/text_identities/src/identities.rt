@@ -7,17 +7,18 @@ use text_numbers::{Step, bad, got, number_between};
 use text_words::next_word;
 
 // The kind and the two words between two places, or the fault.
+#[tactic(auto, unfolding(crate::specs::Identities::patterned))]
 fn patterned(pattern: &[u8], kind: u64, fault: u64, line: &[u8], start: usize, end: usize) -> Step
     requires { (start ≤ end) × (end ≤ length line.now) }
     ensures { result ≡ Identities·patterned pattern.now kind fault line.now start end }
 {
-    let n = spelled_by(pattern, &line[start..end]);
-    if n.good {
-        return got(3, kind, n.high, n.low, 0, 0, end);
+    match spelled_by(pattern, &line[start..end]) {
+        Some(n) => got(3, kind, n.high, n.low, 0, 0, end),
+        None => bad(fault, start + 1, end),
     }
-    bad(fault, start + 1, end)
 }
 
+#[tactic(auto, unfolding(crate::specs::Identities::uuid_pattern))]
 fn uuid_of(line: &[u8], start: usize, end: usize) -> Step
     requires { (start ≤ end) × (end ≤ length line.now) }
     ensures { result ≡ Identities·patterned uuid_pattern 0 4 line.now start end }
@@ -32,6 +33,7 @@ fn uuid_of(line: &[u8], start: usize, end: usize) -> Step
     )
 }
 
+#[tactic(auto, unfolding(crate::specs::Identities::ulid_pattern))]
 fn ulid_of(line: &[u8], start: usize, end: usize) -> Step
     requires { (start ≤ end) × (end ≤ length line.now) }
     ensures { result ≡ Identities·patterned ulid_pattern 1 5 line.now start end }
@@ -40,15 +42,15 @@ fn ulid_of(line: &[u8], start: usize, end: usize) -> Step
 }
 
 // The identity between two places.
+#[tactic(auto, unfolding(crate::specs::Identities::identity_between))]
 fn identity_between(line: &[u8], start: usize, end: usize) -> Step
     requires { (start ≤ end) × (end ≤ length line.now) }
     ensures { result ≡ identity_between line.now start end }
 {
-    if end - start == 36 {
-        return uuid_of(line, start, end);
-    }
-    if end - start == 26 {
-        return ulid_of(line, start, end);
+    match end - start {
+        36 => return uuid_of(line, start, end),
+        26 => return ulid_of(line, start, end),
+        _ => {}
     }
     let n = number_between(line, start, end);
     if n.fault != 0 {
@@ -58,6 +60,7 @@ fn identity_between(line: &[u8], start: usize, end: usize) -> Step
 }
 
 // The UUID between two places.
+#[tactic(auto, unfolding(crate::specs::Identities::uuid_between))]
 fn uuid_between(line: &[u8], start: usize, end: usize) -> Step
     requires { (start ≤ end) × (end ≤ length line.now) }
     ensures { result ≡ uuid_between line.now start end }

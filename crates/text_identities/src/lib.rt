@@ -6,10 +6,9 @@ mod spelling;
 
 pub use identities::{identity_at, uuid_at};
 
-// What is read so far: whether its characters are as they should be, and its 128 bits.
+// The 128 bits of what is read so far.
 #[derive(Clone, Copy)]
 pub struct Spelled {
-    pub good: bool,
     pub high: u64,
     pub low: u64,
 }

@@ -1,31 +1,25 @@
 // A text as 128 bits, by a pattern.
-ghost use Rattle.std.specs.Prelude.{◌≤◌, ◌<◌, ◌≡◌};
-ghost use Rattle.text_identities.specs.Identities.{place_in, value_of, most_of, behind_four, behind_five, with_character, spelled_by};
+ghost use Rattle.std.specs.Prelude.{◌*◌, ◌^◌, ◌<◌, ◌≡◌};
+ghost use Rattle.text_identities.specs.Identities.{place_in, value_of, most_of, behind, with_character, spelled_by};
 
 use crate::Spelled;
 use text_words::folded;
 
-const SPOILT: Spelled = Spelled {
-    good: false,
-    high: 0,
-    low: 0,
-};
-
 // The place of a letter in a text; the text's length where it has none.
+#[tactic(auto, unfolding(crate::specs::Identities::place_in))]
 fn place_in(text: &[u8], b: u8) -> usize
     ensures { result ≡ place_in text.now b }
 {
-    let mut i = 0;
-    while i < text.len() {
-        if text[i] == b {
+    for (i, x) in text.iter().enumerate() {
+        if *x == b {
             return i;
         }
-        i += 1;
     }
-    i
+    text.len()
 }
 
 // A digit's value; 32 where it is none.
+#[tactic(auto, unfolding(crate::specs::Identities::value_of, crate::specs::Identities::digits))]
 fn value_of(b: u8) -> u64
     ensures { result ≡ value_of b }
 {
@@ -33,78 +27,58 @@ fn value_of(b: u8) -> u64
 }
 
 // The largest digit that a pattern's letter lets pass.
+#[tactic(auto, unfolding(crate::specs::Identities::most_of))]
 fn most_of(p: u8) -> u64
     ensures { (result ≡ most_of p) × (result < 32) }
 {
-    if p == b'7' {
-        return 7;
+    match p {
+        b'7' => 7,
+        b'f' => 15,
+        _ => 31,
     }
-    if p == b'f' {
-        return 15;
-    }
-    31
 }
 
-// A digit of four bits behind the others.
-fn behind_four(n: Spelled, d: u64) -> Spelled
-    requires { d < 16 }
-    ensures { result ≡ behind_four n d }
+// A digit of a base behind the others; `top` is 2^64 by the base.
+fn behind(n: Spelled, base: u64, top: u64, d: u64) -> Spelled
+    requires whole { top * base ≡ 2 ^ 64 }
+    requires digit { d < base }
+    ensures { result ≡ behind base top n d }
 {
     Spelled {
-        good: n.good,
-        high: n.high % 1152921504606846976 * 16 + n.low / 1152921504606846976,
-        low: n.low % 1152921504606846976 * 16 + d,
+        high: n.high % top * base + n.low / top,
+        low: n.low % top * base + d,
     }
 }
 
-// A digit of five bits behind the others.
-fn behind_five(n: Spelled, d: u64) -> Spelled
-    requires { d < 32 }
-    ensures { result ≡ behind_five n d }
-{
-    Spelled {
-        good: n.good,
-        high: n.high % 576460752303423488 * 32 + n.low / 576460752303423488,
-        low: n.low % 576460752303423488 * 32 + d,
-    }
-}
-
-// What is read with a character behind it, by the pattern's letter.
-fn with_character(n: Spelled, p: u8, b: u8) -> Spelled
+// What is read with a character behind it, by the pattern's letter; none where it is another one.
+#[tactic(auto, unfolding(crate::specs::Identities::with_character))]
+fn with_character(n: Spelled, p: u8, b: u8) -> Option<Spelled>
     ensures { result ≡ with_character n p b }
 {
     if p == b'-' {
-        if b == b'-' {
-            return n;
-        }
-        return SPOILT;
+        return if b == b'-' { Some(n) } else { None };
     }
     let d = value_of(b);
     if d > most_of(p) {
-        return SPOILT;
+        return None;
     }
     if p == b'f' {
-        return behind_four(n, d);
+        return Some(behind(n, 16, 1152921504606846976, d));
     }
-    behind_five(n, d)
+    Some(behind(n, 32, 576460752303423488, d))
 }
 
 // A text by a pattern of its length.
-pub fn spelled_by(pattern: &[u8], text: &[u8]) -> Spelled
+#[tactic(auto, unfolding(crate::specs::Identities::spelled_by))]
+pub fn spelled_by(pattern: &[u8], text: &[u8]) -> Option<Spelled>
     ensures { result ≡ spelled_by pattern.now text.now }
 {
     if text.len() != pattern.len() {
-        return SPOILT;
+        return None;
     }
-    let mut n = Spelled {
-        good: true,
-        high: 0,
-        low: 0,
-    };
-    let mut i = 0;
-    while i < text.len() {
-        n = with_character(n, pattern[i], text[i]);
-        i += 1;
+    let mut n = Spelled { high: 0, low: 0 };
+    for (i, b) in text.iter().enumerate() {
+        n = with_character(n, pattern[i], *b)?;
     }
-    n
+    Some(n)
 }

@@ -1,89 +1,89 @@
 -- Laws of the lines of a text: a byte more, the line feed, the end.
-use Prim.Native.Nat.{ℕ, zero, suc, ◌+◌, ◌-◌, ◌≤◌, ◌<◌}
-use mathlib.Core.Path.{◌≡◌, refl, sym, ap, ◌∙◌}
-use mathlib.Core.List.{List, [], ◌∷◌, ◌++◌}
-use native.Mathlib.Numerals.{add-one}
+use Prim.Native.Nat.{ℕ, suc, ◌+◌, ◌-◌, ◌≤◌, ◌<◌}
+use mathlib.Core.Path.{◌≡◌, refl, sym, ap, subst, ◌∙◌}
+use mathlib.Core.Bool.{Bool, true, false, cond}
+use mathlib.Core.List.{List, [], ◌∷◌}
+use lib.Dec.{eqb, ltb}
+use Rattle.std.specs.List.{position_or_len, position}
+use Rattle.std.specs.Prelude.{Some, None}
 use native.Mathlib.Omega.{arith}
-use borrow.Author.Tests.{eq-eqb, ne_eqb}
+use borrow.Author.Tests.{ltb-false}
 use lib.ListN.{length, take, drop, get_or, drop_of_length-le, length-drop}
-use lib.Seq.{drop-cons, take-suc, get_or-drop}
+use lib.Seq.{take_all, drop-drop}
 use Rattle.text_lines.specs.Lines.{onto, lines_of, between, line_at}
 
--- bytes before the first line
-unfoldable pub before : List ℕ → List (List ℕ) → List (List ℕ)
-before [] lines = lines
-before (b ∷ l) lines = onto b (before l lines)
+-- what the first line of a text is, where it ends at a place
+first_line : List ℕ → ℕ → Type 0
+first_line l n = lines_of l ≡ take n l ∷ lines_of (drop (suc n) l)
 
-before_snoc : (l : List ℕ) (b : ℕ) (lines : List (List ℕ)) → before (l ++ (b ∷ [])) lines ≡ before l (onto b lines)
-unfolding before
-before_snoc [] b lines = refl
-before_snoc (x ∷ l) b lines = ap (onto x) (before_snoc l b lines)
+line_longer : (b n : ℕ) (l : List ℕ) → eqb b 10 ≡ false → first_line l n → first_line (b ∷ l) (suc n)
+unfolding lines_of onto first_line
+line_longer b n l e h = simp e (ap (onto b) h)
 
-before_line : (l : List ℕ) (lines : List (List ℕ)) → before l ([] ∷ lines) ≡ l ∷ lines
-unfolding before onto
-before_line [] lines = refl
-before_line (x ∷ l) lines = ap (onto x) (before_line l lines)
+-- it ends at the first line feed, or with the text
+feed-first : List ℕ → ℕ
+feed-first l = position_or_len (λ b. eqb b 10) l
 
-before_last : (b : ℕ) (l : List ℕ) → before (b ∷ l) [] ≡ (b ∷ l) ∷ []
-unfolding before onto
-before_last b [] = refl
-before_last b (x ∷ l) = ap (onto b) (before_last x l)
+lines_first : (l : List ℕ) → 0 < length l → first_line l (feed-first l)
+unfolding lines_of onto first_line feed-first
+lines_first [] h = absurd (omega arith)
+lines_first (b ∷ l) h = by_test (eqb b 10) refl l (lines_first l)
+  where
+    by_test : (t : Bool) → eqb b 10 ≡ t → (l : List ℕ) → (0 < length l → first_line l (feed-first l)) → first_line (b ∷ l) (feed-first (b ∷ l))
+    by_test true e l rest = simp e
+    by_test false e [] rest = simp e
+    by_test false e (x ∷ l) rest =
+        let n : suc (feed-first (x ∷ l)) ≡ feed-first (b ∷ x ∷ l) = simp e (omega arith) in
+        subst (first_line (b ∷ x ∷ l)) n (line_longer b (feed-first (x ∷ l)) (x ∷ l) e (rest (omega arith)))
+
+-- what a search for the line feed tells
+found_at : (n m k : ℕ) → Some k ≡ cond (ltb n m) (Some n) None → k ≡ n
+found_at n m k e = by_test (ltb n m) e
+  where
+    by_test : (t : Bool) → Some k ≡ cond t (Some n) None → k ≡ n
+    by_test true e = cc
+    by_test false e = absurd (cc)
+
+found_none : (n m : ℕ) → None ≡ cond (ltb n m) (Some n) None → m ≤ n
+found_none n m e = by_test (ltb n m) refl e
+  where
+    by_test : (t : Bool) → ltb n m ≡ t → None ≡ cond t (Some n) None → m ≤ n
+    by_test true is e = absurd (cc)
+    by_test false is e = ltb-false n m is
+
+rest_of : (l : List ℕ) (at : ℕ) → take (length l - at) (drop at l) ≡ drop at l
+rest_of l at = take_all (length l - at) (drop at l) (rw length-drop (omega arith))
+
+pub line_feed : (text : List ℕ) (at k : ℕ) → at < length text → Some k ≡ position (λ b. eqb b 10) (take (length text - at) (drop at text))
+    → lines_of (drop at text) ≡ between text at (at + k) ∷ lines_of (drop (at + k + 1) text)
+unfolding first_line feed-first
+line_feed text at k h found =
+    let n : k ≡ feed-first (drop at text) = found_at _ _ _ (rw (rest_of text at) at found) in
+    let line : first_line (drop at text) k = subst (first_line (drop at text)) (sym n) (lines_first (drop at text) (rw length-drop (omega arith))) in
+    let one : (at + k) - at ≡ k = omega arith in
+    let next : at + k + 1 ≡ at + suc k = omega arith in
+    rw (one, next, ← drop-drop (suc k) at text) line
+
+pub line_last : (text : List ℕ) (at : ℕ) → at < length text → None ≡ position (λ b. eqb b 10) (take (length text - at) (drop at text))
+    → lines_of (drop at text) ≡ between text at (length text) ∷ lines_of (drop (length text) text)
+unfolding first_line feed-first
+line_last text at h found =
+    let n : length (drop at text) ≤ feed-first (drop at text) = found_none _ _ (rw (rest_of text at) at found) in
+    let line : first_line (drop at text) (feed-first (drop at text)) = lines_first (drop at text) (rw length-drop (omega arith)) in
+    let whole : take (feed-first (drop at text)) (drop at text) ≡ drop at text = take_all _ _ n in
+    let none : drop (suc (feed-first (drop at text))) (drop at text) ≡ [] = drop_of_length-le (drop at text) {i = suc (feed-first (drop at text))} (omega arith) in
+    let end : drop (length text) text ≡ [] = drop_of_length-le text {i = length text} (omega arith) in
+    rw (end, rest_of text at) (rw (whole, none) at line)
 
 between_none : (text : List ℕ) (at : ℕ) → between text at at ≡ []
 between_none text at =
     let e : at - at ≡ 0 = omega arith in
     rw e
 
-between_more : (text : List ℕ) (at i : ℕ) → at ≤ i → i < length text → between text at (i + 1) ≡ between text at i ++ (get_or text i 0 ∷ [])
-between_more text at i le lt =
-    let e : (i + 1) - at ≡ suc (i - at) = omega arith in
-    let s : at + (i - at) ≡ i = omega arith in
-    let long : i - at < length (drop at text) = rw length-drop (omega arith) in
-    rw (e, take-suc (drop at text) (i - at) 0 long, get_or-drop at text (i - at) 0, s)
-
--- the loop over a line's bytes: its start, a byte more, the line feed, the end
-pub lines_start : (text : List ℕ) (at : ℕ) → lines_of (drop at text) ≡ before (between text at at) (lines_of (drop at text))
-unfolding before
-lines_start text at = rw (between_none text at)
-
-pub lines_more : (text : List ℕ) (at i : ℕ) → at ≤ i → i < length text → (get_or text i 0 ≡ 10 → ⊥) → lines_of (drop at text) ≡ before (between text at i) (lines_of (drop i text))
-    → lines_of (drop at text) ≡ before (between text at (i + 1)) (lines_of (drop (i + 1) text))
-unfolding lines_of
-lines_more text at i le lt ne e =
-    let d : lines_of (drop i text) ≡ onto (get_or text i 0) (lines_of (drop (i + 1) text)) = rw (add-one, drop-cons text i 0 lt, ne_eqb _ _ ne) in
-    e ∙ ap (before (between text at i)) d ∙ sym (rw (between_more text at i le lt) (before_snoc (between text at i) (get_or text i 0) (lines_of (drop (i + 1) text))))
-
-pub lines_feed : (text : List ℕ) (at i : ℕ) → i < length text → get_or text i 0 ≡ 10 → lines_of (drop at text) ≡ before (between text at i) (lines_of (drop i text))
-    → lines_of (drop at text) ≡ between text at i ∷ lines_of (drop (i + 1) text)
-unfolding lines_of
-lines_feed text at i lt is e =
-    let d : lines_of (drop i text) ≡ [] ∷ lines_of (drop (i + 1) text) = rw (add-one, drop-cons text i 0 lt, eq-eqb _ _ is) in
-    e ∙ ap (before (between text at i)) d ∙ before_line (between text at i) (lines_of (drop (i + 1) text))
-
-pub lines_last : (text : List ℕ) (at i : ℕ) → at < i → length text ≤ i → i ≤ length text → lines_of (drop at text) ≡ before (between text at i) (lines_of (drop i text))
-    → lines_of (drop at text) ≡ between text at i ∷ lines_of (drop i text)
-unfolding lines_of
-lines_last text at i lt ge le e =
-    let none : drop i text ≡ [] = drop_of_length-le text {i = i} ge in
-    let j : i - at ≡ suc (i - suc at) = omega arith in
-    let some : between text at i ≡ get_or text at 0 ∷ take (i - suc at) (drop (suc at) text) = rw (j, drop-cons text at 0 (omega arith)) in
-    e ∙ rw (none, some) (before_last (get_or text at 0) (take (i - suc at) (drop (suc at) text)))
-
--- the loop over lines: its start, a line more, the line, no line
+-- the loop over lines: its start, and no line
 pub line_start : (text : List ℕ) (k : ℕ) → get_or (lines_of (drop 0 text)) k [] ≡ line_at k text
 unfolding line_at
 line_start text k = refl
-
-pub line_more : (text line : List ℕ) (k at next left : ℕ) → (left ≡ 0 → ⊥) → lines_of (drop at text) ≡ line ∷ lines_of (drop next text) → get_or (lines_of (drop at text)) left [] ≡ line_at k text
-    → get_or (lines_of (drop next text)) (left - 1) [] ≡ line_at k text
-line_more text line k at next zero ne cut e = absurd (ne refl)
-line_more text line k at next (suc left) ne cut e =
-    let one : suc left - 1 ≡ left = omega arith in
-    rw one (sym (ap (λ (ls : List (List ℕ)). get_or ls (suc left) []) cut) ∙ e)
-
-pub line_is : (text line : List ℕ) (k at next left : ℕ) → left ≡ 0 → lines_of (drop at text) ≡ line ∷ lines_of (drop next text) → get_or (lines_of (drop at text)) left [] ≡ line_at k text
-    → line ≡ line_at k text
-line_is text line k at next left z cut e = sym (rw (cut, z)) ∙ e
 
 pub line_none : (text : List ℕ) (k at left : ℕ) → length text ≤ at → get_or (lines_of (drop at text)) left [] ≡ line_at k text → between text at at ≡ line_at k text
 unfolding lines_of

@@ -1,7 +1,7 @@
 // A text cut into lines: where the next one ends, and where the k-th one stands. Nothing is copied: a line is two places of the text.
 #![tactic(auto)]
 
-ghost use Rattle.std.specs.Prelude.{◌≤◌, ◌<◌, ◌≡◌, ◌∷◌, length, drop};
+ghost use Rattle.std.specs.Prelude.{◌≤◌, ◌<◌, ◌≡◌, ◌∷◌, ◌==◌, position, length, drop};
 ghost use Rattle.text_lines.specs.Lines.{lines_of, line_at, between};
 
 // Where a line ends and where the one behind it begins: the line feed, if there is one, lies between.
@@ -18,23 +18,29 @@ pub struct Line {
     pub end: usize,
 }
 
+// The place of the first line feed.
+fn line_feed(text: &[u8]) -> Option<usize>
+    ensures { result ≡ position (λ b. b == 10) text.now }
+{
+    text.iter().position(|b| *b == b'\n')
+}
+
 // Cuts off the line that begins at a place.
 pub fn next_line(text: &[u8], at: usize) -> Cut
     requires { at < length text.now }
     ensures text_value { lines_of (drop at text.now) ≡ between text.now at result.end ∷ lines_of (drop result.next text.now) }
     ensures at_le_end { (at ≤ result.end) × (result.end ≤ result.next) × (result.next ≤ length text.now) × (at < result.next) }
 {
-    let mut i = at;
-    while i < text.len() {
-        if text[i] == b'\n' {
-            return Cut {
-                end: i,
-                next: i + 1,
-            };
-        }
-        i += 1;
+    match line_feed(&text[at..]) {
+        Some(k) => Cut {
+            end: at + k,
+            next: at + k + 1,
+        },
+        None => Cut {
+            end: text.len(),
+            next: text.len(),
+        },
     }
-    Cut { end: i, next: i }
 }
 
 // Where the k-th line stands, counted from 0; an empty place at the end where there is none.
@@ -43,17 +49,18 @@ pub fn line_at(text: &[u8], k: u64) -> Line
     ensures start_le_end { (result.start ≤ result.end) × (result.end ≤ length text.now) }
 {
     let mut at = 0;
-    let mut left = k;
-    while at < text.len() {
-        let cut = next_line(text, at);
-        if left == 0 {
-            return Line {
-                start: at,
-                end: cut.end,
-            };
+    for i in 0..k {
+        if at == text.len() {
+            break;
         }
-        left -= 1;
-        at = cut.next;
+        at = next_line(text, at).next;
     }
-    Line { start: at, end: at }
+    if at == text.len() {
+        return Line { start: at, end: at };
+    }
+    let cut = next_line(text, at);
+    Line {
+        start: at,
+        end: cut.end,
+    }
 }

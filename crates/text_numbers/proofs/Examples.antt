@@ -1,6 +1,6 @@
 -- Numbers as theorems, which the checker computes.
 use mathlib.Core.Path.{◌≡◌, refl}
-use mathlib.Core.List.{List, [], ◌∷◌}
+use mathlib.Core.List.{[], ◌∷◌}
 use Rattle.text_words.specs.Words.{word_start, word_end, run, separates, spells}
 use Rattle.text_numbers.specs.Numbers.{number_at, number_between, number_from, with_digit, count_at, count_from, numbers_at}
 use Rattle.text_numbers.specs.Steps.{bad, got, missing, not_number, too_large}

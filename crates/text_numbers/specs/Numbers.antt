@@ -1,39 +1,44 @@
 -- Decimal numbers below 2^64: of a text, of a word, and of a run of words.
-use Rattle.std.specs.Prelude.{ℕ, zero, suc, ◌+◌, ◌-◌, ◌*◌, Bool, true, false, cond, List, [], ◌∷◌, eqb, leb, length}
-use Rattle.text_words.specs.Words.{word_start, word_end, between, same_text}
+use Rattle.std.specs.Prelude.{ℕ, zero, suc, ◌+◌, ◌-◌, ◌*◌, cond, List, [], ◌∷◌, eqb, leb, length, Result, Ok, Err}
+use Rattle.text_words.specs.Words.{word_start, word_end, between}
 use Rattle.text_numbers.specs.Steps.{missing, not_number, too_large, bad, got}
-use Rattle.text_numbers.specs.declared.Numeral.{Numeral}
+use Rattle.text_numbers.specs.declared.Unread.{Unread}
+use Rattle.text_numbers.specs.declared.Unread.TheVariants.{NotNumber, TooLarge}
 use Rattle.text_numbers.specs.declared.Step.{Step}
 
-abbrev pub numeral : ℕ → ℕ → Numeral
-numeral f v = record { fault = f; value = v }
+-- why a text is no number, as a fault
+abbrev pub fault_of : Unread → ℕ
+fault_of NotNumber = not_number
+fault_of TooLarge = too_large
 
--- a number with a digit behind it; the first fault stays
-unfoldable pub with_digit : Numeral → ℕ → Numeral
+-- a number with a digit behind it
+unfoldable pub with_digit : ℕ → ℕ → Result ℕ Unread
 with_digit n b =
-    cond (eqb n.fault 0)
-    (cond (leb 48 b)
-    (cond (leb b 57)
-    (cond (leb (n.value * 10 + (b - 48)) 18446744073709551615) (numeral 0 (n.value * 10 + (b - 48))) (numeral too_large 0))
-    (numeral not_number 0))
-    (numeral not_number 0))
-    n
+    cond (leb 48 b)
+    (cond (leb b 57) (cond (leb (n * 10 + (b - 48)) 18446744073709551615) (Ok (n * 10 + (b - 48))) (Err TooLarge)) (Err NotNumber))
+    (Err NotNumber)
 
-unfoldable pub number_from : Numeral → List ℕ → Numeral
+-- the first fault stays
+abbrev pub digit_behind : Result ℕ Unread → ℕ → Result ℕ Unread
+digit_behind (Ok n) b = with_digit n b
+digit_behind (Err why) b = Err why
+
+unfoldable pub number_from : Result ℕ Unread → List ℕ → Result ℕ Unread
 number_from n [] = n
-number_from n (b ∷ l) = number_from (with_digit n b) l
+number_from n (b ∷ l) = number_from (digit_behind n b) l
 
 -- the number that a text is
-abbrev pub number_of : List ℕ → Numeral
-number_of l = number_from (numeral 0 0) l
+abbrev pub number_of : List ℕ → Result ℕ Unread
+number_of l = number_from (Ok 0) l
 
-abbrev pub of_numeral : Numeral → ℕ → ℕ → Step
-of_numeral n start end = cond (eqb n.fault 0) (got 1 n.value 0 0 0 0 end) (bad n.fault (start + 1) end)
+abbrev pub of_number : Result ℕ Unread → ℕ → ℕ → Step
+of_number (Ok n) start end = got 1 n 0 0 0 0 end
+of_number (Err why) start end = bad (fault_of why) (start + 1) end
 
 -- the number between two places, or that there is no word
 unfoldable pub number_between : List ℕ → ℕ → ℕ → Step
 number_between line start end =
-    cond (eqb start end) (bad missing (start + 1) end) (of_numeral (number_of (between line start end)) start end)
+    cond (eqb start end) (bad missing (start + 1) end) (of_number (number_of (between line start end)) start end)
 
 -- the next word as a number
 unfoldable pub number_at : List ℕ → ℕ → Step

@@ -1,5 +1,5 @@
 -- What an argument of a command gives: a fault with its column, or values; and the place behind it.
-use Rattle.std.specs.Prelude.{ℕ, ◌+◌, List, [], ◌∷◌, take}
+use Rattle.std.specs.Prelude.{ℕ, List, [], ◌∷◌, take}
 use Rattle.text_numbers.specs.declared.Step.{Step}
 
 -- the faults of a word, by number; 0 is none

@@ -9,14 +9,15 @@ pub use numbers::{number_at, number_between};
 pub use runs::{count_at, put_number, put_numbers};
 pub use steps::{bad, got};
 
-// A number that is read so far: 0, or the first fault.
+// Why a text is no number.
 #[derive(Clone, Copy)]
-pub struct Numeral {
-    pub fault: u64,
-    pub value: u64,
+enum Unread {
+    NotNumber,
+    TooLarge,
 }
 
 // What an argument gave: a fault and its column, or 0 and so many values, the first of five; and the place behind the argument.
+// A struct and no Result: behind a fault there is a place too, and a run of numbers (`count_from`) goes on from it.
 #[derive(Clone, Copy)]
 pub struct Step {
     pub fault: u64,

@@ -1,56 +1,53 @@
 // Decimal numbers.
 ghost use Rattle.std.specs.Prelude.{◌≤◌, ◌≡◌, length};
-ghost use Rattle.text_numbers.specs.Numbers.{with_digit, number_of, number_between, number_at};
+ghost use Rattle.text_numbers.specs.Numbers.{fault_of, with_digit, number_of, number_between, number_at};
 
 use crate::steps::{bad, got};
-use crate::{Numeral, Step};
+use crate::{Step, Unread};
 use text_words::next_word;
 
-const NOT_NUMBER: Numeral = Numeral { fault: 2, value: 0 };
+// The fault that it is.
+fn fault_of(why: Unread) -> u64
+    ensures { result ≡ fault_of why }
+{
+    match why {
+        Unread::NotNumber => 2,
+        Unread::TooLarge => 3,
+    }
+}
 
-const TOO_LARGE: Numeral = Numeral { fault: 3, value: 0 };
-
-// A number with a digit behind it; the first fault stays.
-fn with_digit(n: Numeral, b: u8) -> Numeral
+// A number with a digit behind it.
+#[tactic(auto, unfolding(crate::specs::Numbers::with_digit))]
+fn with_digit(n: u64, b: u8) -> Result<u64, Unread>
     ensures { result ≡ with_digit n b }
 {
-    if n.fault != 0 {
-        return n;
+    let digit = match b {
+        b'0'..=b'9' => u64::from(b - b'0'),
+        _ => return Err(Unread::NotNumber),
+    };
+    if n > 1844674407370955161 {
+        return Err(Unread::TooLarge);
     }
-    if b < 48 {
-        return NOT_NUMBER;
-    }
-    if b > 57 {
-        return NOT_NUMBER;
-    }
-    let digit = (b - 48) as u64;
-    if n.value > 1844674407370955161 {
-        return TOO_LARGE;
-    }
-    let tens = n.value * 10;
+    let tens = n * 10;
     if digit > 0xffff_ffff_ffff_ffff - tens {
-        return TOO_LARGE;
+        return Err(Unread::TooLarge);
     }
-    Numeral {
-        fault: 0,
-        value: tens + digit,
-    }
+    Ok(tens + digit)
 }
 
 // The number that a text is.
-fn number(text: &[u8]) -> Numeral
+fn number(text: &[u8]) -> Result<u64, Unread>
     ensures { result ≡ number_of text.now }
 {
-    let mut n = Numeral { fault: 0, value: 0 };
-    let mut i = 0;
-    while i < text.len() {
-        n = with_digit(n, text[i]);
-        i += 1;
+    let mut n = 0;
+    for b in text {
+        n = with_digit(n, *b)?;
     }
-    n
+    Ok(n)
 }
 
 // The number between two places.
+#[tactic(auto, unfolding(crate::specs::Numbers::number_between))]
 pub fn number_between(line: &[u8], start: usize, end: usize) -> Step
     requires { (start ≤ end) × (end ≤ length line.now) }
     ensures { result ≡ number_between line.now start end }
@@ -58,11 +55,10 @@ pub fn number_between(line: &[u8], start: usize, end: usize) -> Step
     if start == end {
         return bad(1, start + 1, end);
     }
-    let n = number(&line[start..end]);
-    if n.fault != 0 {
-        return bad(n.fault, start + 1, end);
+    match number(&line[start..end]) {
+        Ok(n) => got(1, n, 0, 0, 0, 0, end),
+        Err(why) => bad(fault_of(why), start + 1, end),
     }
-    got(1, n.value, 0, 0, 0, 0, end)
 }
 
 // The next word as a number.

@@ -12,10 +12,8 @@ pub fn count_at(line: &[u8], from: usize) -> Step
     requires { from ≤ length line.now }
     ensures { (result ≡ count_at line.now from) × (result.next ≤ length line.now) }
 {
-    let mut left = line.len() + 1;
     let mut at = from;
-    let mut n: usize = 0;
-    while left > 0 {
+    for n in 0..line.len() + 1 {
         let s = number_at(line, at);
         if s.fault != 0 {
             if s.fault != 1 {
@@ -27,10 +25,8 @@ pub fn count_at(line: &[u8], from: usize) -> Step
             return got(2, from as u64, n as u64, 0, 0, 0, s.next);
         }
         at = s.next;
-        n += 1;
-        left -= 1;
     }
-    got(2, from as u64, n as u64, 0, 0, 0, at)
+    got(2, from as u64, line.len() as u64 + 1, 0, 0, 0, at)
 }
 
 // Puts a number at a place of a list, if the list has it.
@@ -47,14 +43,10 @@ pub fn put_numbers(line: &[u8], from: usize, count: usize, list: &mut [u64], at:
     requires { (from ≤ length line.now) × (at + count < 2 ^ 64) }
     ensures { list.new ≡ sets list.old at (numbers_at count line.now from) }
 {
-    let mut left = count;
     let mut place = from;
-    let mut i = at;
-    while left > 0 {
+    for i in at..at + count {
         let n = number_at(line, place);
         put_number(list, i, n.a);
         place = n.next;
-        i += 1;
-        left -= 1;
     }
 }

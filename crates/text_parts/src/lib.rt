@@ -9,6 +9,7 @@ ghost use Rattle.text_parts.specs.Parts.{Begins, line_in};
 use text_forms::put_form;
 
 // Puts what the k-th line of a text makes of values from a place on. `starts` says where the lines begin.
+#[tactic(auto, unfolding(crate::specs::Parts::line_in))]
 pub fn put_part(
     buf: &mut [u8],
     at: usize,

@@ -7,6 +7,7 @@ use text_buffer::{put_decimal, put_text};
 use text_wide::put_wide;
 
 // Puts a side from a place on.
+#[tactic(auto, unfolding(crate::specs::Pieces::side_of))]
 pub fn put_side(buf: &mut [u8], at: usize, side: u64) -> usize
     requires { at + 4 < 2 ^ 64 }
     ensures put { Put buf.old at (side_of side) buf.new result }
@@ -19,6 +20,7 @@ pub fn put_side(buf: &mut [u8], at: usize, side: u64) -> usize
 }
 
 // Puts a price that may be absent from a place on.
+#[tactic(auto, unfolding(crate::specs::Pieces::price_of))]
 pub fn put_price(buf: &mut [u8], at: usize, present: u64, price: u64) -> usize
     requires { at + 20 < 2 ^ 64 }
     ensures put { Put buf.old at (price_of present price) buf.new result }
@@ -31,6 +33,7 @@ pub fn put_price(buf: &mut [u8], at: usize, present: u64, price: u64) -> usize
 }
 
 // Puts a limit, of two words, that may be absent from a place on.
+#[tactic(auto, unfolding(crate::specs::Pieces::limit_of))]
 pub fn put_limit(buf: &mut [u8], at: usize, limited: u64, high: u64, low: u64) -> usize
     requires { at + 50 < 2 ^ 64 }
     ensures put { Put buf.old at (limit_of limited high low) buf.new result }

@@ -4,20 +4,14 @@ ghost use Rattle.std.proofs.lemmas.List.Edits.{sets};
 ghost use Rattle.text_buffer.specs.Writing.{Put};
 ghost use Rattle.text_pieces.specs.Pieces.{bytes_of, until_zero, holder_of};
 
-use text_buffer::put_byte;
+use text_buffer::{put_byte, put_in_base};
 
 // Puts the eight bytes of a word, the most significant first.
-fn put_word(bytes: &mut [u8; 32], at: usize, n: u64)
+fn put_word(bytes: &mut [u8], at: usize, n: u64)
     requires { at ≤ 24 }
     ensures { bytes.new ≡ sets bytes.old at (bytes_of n) }
 {
-    let mut i: usize = 8;
-    let mut rest = n;
-    while i > 0 {
-        i -= 1;
-        bytes[at + i] = (rest % 256) as u8;
-        rest /= 256;
-    }
+    put_in_base(bytes, at, 8, n, 256, |b| b as u8);
 }
 
 // Puts a text up to its first zero byte from a place on.
@@ -26,16 +20,13 @@ fn put_until_zero(buf: &mut [u8], at: usize, text: &[u8]) -> usize
     ensures put { Put buf.old at (until_zero text.now) buf.new result }
     ensures upper_bound { result ≤ at + length text.now }
 {
-    let mut i = 0;
-    while i < text.len() {
-        let b = text[i];
-        if b == 0 {
+    for (i, b) in text.iter().enumerate() {
+        if *b == 0 {
             return at + i;
         }
-        put_byte(buf, at + i, b);
-        i += 1;
+        put_byte(buf, at + i, *b);
     }
-    at + i
+    at + text.len()
 }
 
 // Puts a holder's name, of at most 32 bytes, from a place on.

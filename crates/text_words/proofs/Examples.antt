@@ -1,7 +1,7 @@
 -- Words and texts as theorems, which the checker computes.
 use mathlib.Core.Path.{◌≡◌, refl}
 use mathlib.Core.Bool.{true, false}
-use mathlib.Core.List.{List, [], ◌∷◌}
+use mathlib.Core.List.{[], ◌∷◌}
 use Rattle.text_words.specs.Words.{word_start, word_end, run, separates, spells, same_text, folded}
 
 -- "sell;7,;\t9", from 4

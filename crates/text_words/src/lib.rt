@@ -3,7 +3,7 @@
 // A word is two places of the line, and nothing is copied. Where the two are one there is no word, and that is the place where one should begin.
 #![tactic(auto)]
 
-ghost use Rattle.std.specs.Prelude.{◌+◌, ◌≤◌, ◌≡◌, length, drop};
+ghost use Rattle.std.specs.Prelude.{ℕ, Bool, ◌+◌, ◌≤◌, ◌<◌, ◌≡◌, ◌↔◌, IsTrue, EachIndex, slice_index, length, drop};
 ghost use Rattle.text_words.specs.Words.{separates as Words·separates, spells as Words·spells, folded as Words·folded, run, word_start, word_end, same_text};
 
 // Where a word begins and ends.
@@ -14,69 +14,35 @@ pub struct Word {
 }
 
 // Whether a byte separates words.
+#[tactic(auto, unfolding(crate::specs::Words::separates))]
 fn separates(b: u8) -> bool
     ensures { result ≡ Words·separates b }
 {
-    if b == b' ' {
-        return true;
-    }
-    if b == b'\t' {
-        return true;
-    }
-    if b == b',' {
-        return true;
-    }
-    if b == b';' {
-        return true;
-    }
-    if b == b'\r' {
-        return true;
-    }
-    false
+    matches!(b, b' ' | b'\t' | b',' | b';' | b'\r')
 }
 
 // Whether a byte belongs to a word.
+#[tactic(auto, unfolding(crate::specs::Words::spells))]
 fn spells(b: u8) -> bool
     ensures { result ≡ Words·spells b }
 {
-    if b == b'#' {
-        return false;
-    }
-    !separates(b)
+    b != b'#' && !separates(b)
 }
 
-// The first place, from one on, that separates no words.
-fn start_of(line: &[u8], at: usize) -> usize
-    requires { at ≤ length line.now }
-    ensures value { result ≡ at + run Words·separates (drop at line.now) }
-    ensures lower_bound { (at ≤ result) × (result ≤ length line.now) }
+// The first place, from one on, that does not pass.
+fn passed<F: Fn(u8) -> bool>(line: &[u8], at: usize, passes: F) -> usize
+    requires at_bound { at ≤ length line.now }
+    requires calls { F.IsAlwaysCallable passes }
+    ensures value { (p : ℕ → Bool) → ((b : ℕ) (r : Bool) → F.post passes b r → r ≡ p b) → result ≡ at + run p (drop at line.now) }
+    ensures bounds { (at ≤ result) × (result ≤ length line.now) }
 {
-    let mut i = at;
-    while i < line.len() {
-        if separates(line[i]) {
-            i += 1;
-        } else {
-            return i;
+    let rest = &line[at..];
+    for (k, b) in rest.iter().enumerate() {
+        if !passes(*b) {
+            return at + k;
         }
     }
-    i
-}
-
-// The first place, from one on, that belongs to no word.
-fn end_of(line: &[u8], at: usize) -> usize
-    requires { at ≤ length line.now }
-    ensures value { result ≡ at + run Words·spells (drop at line.now) }
-    ensures lower_bound { (at ≤ result) × (result ≤ length line.now) }
-{
-    let mut i = at;
-    while i < line.len() {
-        if spells(line[i]) {
-            i += 1;
-        } else {
-            return i;
-        }
-    }
-    i
+    line.len()
 }
 
 // The next word.
@@ -85,39 +51,34 @@ pub fn next_word(line: &[u8], at: usize) -> Word
     ensures start_value { (result.start ≡ word_start line.now at) × (result.end ≡ word_end line.now at) }
     ensures start_le_end { (result.start ≤ result.end) × (result.end ≤ length line.now) }
 {
-    let start = start_of(line, at);
+    let start = passed(line, at, separates);
     Word {
-        start: start,
-        end: end_of(line, start),
+        start,
+        end: passed(line, start, spells),
     }
 }
 
 // A letter from A to Z as the small one.
+#[tactic(auto, unfolding(crate::specs::Words::folded))]
 pub fn folded(b: u8) -> u8
     ensures { result ≡ Words·folded b }
 {
-    if b < b'A' {
-        return b;
+    match b {
+        b'A'..=b'Z' => b + 32,
+        _ => b,
     }
-    if b > b'Z' {
-        return b;
-    }
-    b + 32
+}
+
+// Whether two texts are the same, but for the case of their letters, as far as both go.
+fn same_letters(a: &[u8], b: &[u8]) -> bool
+    ensures { IsTrue result ↔ EachIndex a.now (λ k. k < length b.now → Words·folded (slice_index a.now k) ≡ Words·folded (slice_index b.now k)) }
+{
+    a.iter().zip(b).all(|(x, y)| folded(*x) == folded(*y))
 }
 
 // Whether two texts are the same, but for the case of their letters.
 pub fn same(a: &[u8], b: &[u8]) -> bool
     ensures { result ≡ same_text a.now b.now }
 {
-    let mut i = 0;
-    while i < a.len() {
-        if i >= b.len() {
-            return false;
-        }
-        if folded(a[i]) != folded(b[i]) {
-            return false;
-        }
-        i += 1;
-    }
-    i == b.len()
+    a.len() == b.len() && same_letters(a, b)
 }

@@ -17,9 +17,7 @@ fn electing_word(terms: StopTerms, prices: &[u64]) -> u64
     ensures { result ≡ bits_at (electing_from 0 terms (map to_price prices.now)) }
 {
     let mut word: u64 = 0;
-    let mut j = prices.len();
-    while j > 0 {
-        j -= 1;
+    for j in (0..prices.len()).rev() {
         word *= 2;
         if terms.elected_by(Price(prices[j])) {
             word += 1;

@@ -2,7 +2,6 @@
 use Prim.Native.Nat.{ℕ, ◌≤◌}
 use mathlib.Core.Path.{◌≡◌, refl, sym, ap}
 use mathlib.Core.List.{List, map}
-use mathlib.Core.Option.{none, some}
 use borrow.Author.Tests.{leb-true}
 use lib.Dec.{leb}
 use lib.ListN.{length}
@@ -14,8 +13,9 @@ use Rattle.pricelevel.specs.declared.Price.{Price}
 use Rattle.book.proofs.Questions.{first_no_none}
 use Rattle.book.specs.Calls.{written}
 use Rattle.book.specs.TurningPoints.{turning_points, turning_points_questions, turning_points_call}
+use Rattle.std.specs.Prelude.{None, Some}
 
-module _ (prices : List Price) (list : ℕ) (h : none ≡ first_no (turning_points_questions prices list)) where
+module _ (prices : List Price) (list : ℕ) (h : None ≡ first_no (turning_points_questions prices list)) where
   pub accepted_some : 1 ≤ length prices
   unfolding turning_points_questions
   accepted_some =
@@ -26,13 +26,13 @@ module _ (prices : List Price) (list : ℕ) (h : none ≡ first_no (turning_poin
   accepted_room = leb-true _ _ (first_no_none (turning_points_questions prices list) (sym h)).1.0
 
 module _ (prices : List Price) (list : List ℕ) where
-  pub turning_points_refused : (k : ℕ) → some k ≡ first_no (turning_points_questions prices (length list))
+  pub turning_points_refused : (k : ℕ) → Some k ≡ first_no (turning_points_questions prices (length list))
       → (refused k ≡ (turning_points_call prices (length list)).answer)
       × (list ≡ written (map price_word (turning_points_call prices (length list)).listed) list)
   unfolding turning_points_call decide written
   turning_points_refused k h = rw (← h) (refl, refl)
 
-  pub turning_points_done : (m : ℕ) (after : List ℕ) → none ≡ first_no (turning_points_questions prices (length list))
+  pub turning_points_done : (m : ℕ) (after : List ℕ) → None ≡ first_no (turning_points_questions prices (length list))
       → m ≡ length (turning_points prices)
       → after ≡ written (map price_word (turning_points prices)) list
       → (accepted m ≡ (turning_points_call prices (length list)).answer)

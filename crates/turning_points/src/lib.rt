@@ -3,21 +3,21 @@
 #![tactic(auto)]
 
 ghost use Rattle.std.specs.Prelude.{map, ◌≡◌, ◌≤◌, length};
-ghost use Rattle.book.specs.Answers.{told_list};
+ghost use Rattle.error.specs.Answer.{told_answer};
 ghost use Rattle.book.specs.Calls.{written};
 ghost use Rattle.book.specs.TurningPoints.{turns_at, turning_points, turning_points_questions, turning_points_call};
 ghost use Rattle.error.specs.Questions.{first_no};
 ghost use Rattle.error.specs.Verdict.{told_verdict};
 ghost use Rattle.pricelevel.specs.Price.{to_price, price_word};
 
-use book::{ListAnswer, MOST_PRICES};
-use error::{Refusal, Verdict};
+use book::MOST_PRICES;
+use error::{Ask, Refusal};
 
 // The questions: 16, 14.
-fn ask_turning_points(prices: &[u64], list: usize) -> Verdict
+fn ask_turning_points(prices: &[u64], list: usize) -> Result<(), Refusal>
     ensures { told_verdict result ≡ first_no (turning_points_questions (map to_price prices.now) list) }
 {
-    Verdict::Accepted
+    Ok(())
         .ask(prices.len() >= 1, Refusal::PriceCountOutOfRange)
         .ask(prices.len() <= MOST_PRICES, Refusal::PriceCountOutOfRange)
         .ask(list >= prices.len(), Refusal::ListTooShort)
@@ -49,10 +49,8 @@ fn write_turning_points(prices: &[u64], list: &mut [u64]) -> usize
     let mut start = prices[0];
     let mut here = prices[1];
     let mut count: usize = 1;
-    let mut i: usize = 2;
-    while i < prices.len() {
+    for i in 2..prices.len() {
         let next = prices[i];
-        i += 1;
         if !turns_at(start, here, next) {
             here = next;
             continue;
@@ -69,17 +67,12 @@ fn write_turning_points(prices: &[u64], list: &mut [u64]) -> usize
 // Writes the turning points of a run of prices from the start of the list; later places stay. A walk over them elects
 // what the walk over the run elects, and leaves the store that it leaves. Answers how many there are. Refused: not 1 to
 // 4,096 prices (16); fewer places than prices (14).
-pub fn turning_points(prices: &[u64], list: &mut [u64]) -> ListAnswer
+pub fn turning_points(prices: &[u64], list: &mut [u64]) -> Result<u64, Refusal>
     ensures { let o = turning_points_call (map to_price prices.now) (length list.old) in
-        (told_list result ≡ o.answer)
+        (told_answer result ≡ o.answer)
         × (list.new ≡ written (map price_word o.listed) list.old) }
 {
-    let verdict = ask_turning_points(prices, list.len());
-    match verdict {
-        Verdict::Refused(e) => ListAnswer::Err(e),
-        Verdict::Accepted => {
-            let count = write_turning_points(prices, list);
-            ListAnswer::Ok(count as u64)
-        }
-    }
+    ask_turning_points(prices, list.len())?;
+    let count = write_turning_points(prices, list);
+    Ok(count as u64)
 }

@@ -10,10 +10,10 @@ use Rattle.book.specs.Entries.{elected_words, moved_words}
 use Rattle.book.specs.Lists.{All}
 use Rattle.book.specs.declared.Elected.{Elected}
 use Rattle.book.specs.declared.Moved.{Moved}
-pub use Rattle.entry_records.specs.Records.{elected_of, moved_of}
 use Rattle.entry_records.proofs.EntryWords.{elected_read, moved_read}
 use Rattle.evaluation.proofs.Rooms.{UuidChild, Listed}
 use Rattle.walks.proofs.Written.{written_back}
+pub use Rattle.entry_records.specs.Records.{elected_of, moved_of}
 
 pub entries_read : (es : List Elected) → All UuidChild es → map elected_of (map elected_words es) ≡ es
 entries_read [] u = refl

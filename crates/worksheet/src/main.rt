@@ -10,46 +10,37 @@ use sheets::{MOST_TEXT, not_read, sheet};
 use std::env::{Env, FillError};
 use text_words::same;
 
-// What no argument asks for.
-const NONE: u64 = 3;
-
-// The first argument, as what is to be written.
-fn asked(env: &impl Env) -> u64 {
+// The first argument, as what is to be written; none where it names nothing.
+fn asked(env: &impl Env) -> Option<u64> {
     let mut room = [0u8; 16];
     match env.arg(1, &mut room) {
-        Ok(n) => mode_of(&room, n),
-        Err(FillError::NotPresent) => TEXT,
-        Err(FillError::TooLong) => NONE,
+        Ok(n) => mode_of(room.get(..n)?),
+        Err(FillError::NotPresent) => Some(TEXT),
+        Err(FillError::TooLong) => None,
     }
 }
 
-fn mode_of(room: &[u8; 16], n: usize) -> u64 {
-    if n > 16 {
-        return NONE;
-    }
-    let all: &[u8] = room;
-    let word = &all[0..n];
+fn mode_of(word: &[u8]) -> Option<u64> {
     if same(word, b"table") {
-        return TABLE;
+        return Some(TABLE);
     }
     if same(word, b"picture") {
-        return PICTURE;
+        return Some(PICTURE);
     }
-    NONE
+    None
 }
 
-fn run(text: &[u8], mode: u64) {
-    if mode == NONE {
-        not_read(names::NO_SUCH_ARGUMENT);
-        return;
-    }
+fn run(text: &[u8], asked: Option<u64>) {
+    let Some(mode) = asked else {
+        return not_read(names::NO_SUCH_ARGUMENT);
+    };
     if text.len() >= MOST_TEXT {
-        not_read(names::TOO_LONG);
-        return;
+        return not_read(names::TOO_LONG);
     }
     sheet(text, mode);
 }
 
+// Room for a sheet, in a function of its own: where `main` makes the array, the check does not end.
 fn room() -> [u8; MOST_TEXT]
     ensures { 524288 ≡ length result }
 {

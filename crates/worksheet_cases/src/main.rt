@@ -9,9 +9,6 @@ use sheets::{MOST_TEXT, sheet};
 use text_lines::next_line;
 use text_words::{next_word, same};
 
-// No sheet has begun.
-const NONE: u64 = 3;
-
 fn mode_of(word: &[u8]) -> u64 {
     if same(word, b"table") {
         return TABLE;
@@ -25,52 +22,54 @@ fn mode_of(word: &[u8]) -> u64 {
 // Whether a line begins a sheet.
 fn begins(line: &[u8]) -> bool {
     let w = next_word(line, 0);
-    let start = w.start;
-    let end = w.end;
-    same(&line[start..end], b"===")
+    same(&line[w.start..w.end], b"===")
 }
 
 // The mode that it names.
 fn mode_named(line: &[u8]) -> u64 {
     let first = next_word(line, 0);
     let w = next_word(line, first.end);
-    let start = w.start;
-    let end = w.end;
-    mode_of(&line[start..end])
+    mode_of(&line[w.start..w.end])
 }
 
-fn run(text: &[u8], from: usize, to: usize, mode: u64) {
-    if mode == NONE {
-        return;
+// A sheet that has begun: its mode, and where its text begins.
+#[derive(Clone, Copy)]
+struct Begun {
+    mode: u64,
+    from: usize,
+}
+
+// Runs a sheet, if one has begun, up to a place.
+fn run(text: &[u8], begun: Option<Begun>, to: usize) {
+    if let Some(b) = begun {
+        if b.from <= to && to <= text.len() {
+            sheet(&text[b.from..to], b.mode);
+        }
     }
-    if to > text.len() {
-        return;
-    }
-    if from > to {
-        return;
-    }
-    sheet(&text[from..to], mode);
 }
 
 fn cases(text: &[u8]) {
-    let mut mode = NONE;
-    let mut from: usize = 0;
+    let mut begun: Option<Begun> = None;
     let mut at: usize = 0;
+    // By place: the next line begins where `next_line` says.
     while at < text.len() {
         let cut = next_line(text, at);
-        let end = cut.end;
-        if begins(&text[at..end]) {
-            run(text, from, at, mode);
-            io::write_all(1, &text[at..end]);
+        let line = &text[at..cut.end];
+        if begins(line) {
+            run(text, begun, at);
+            io::write_all(1, line);
             io::write_all(1, b"\n");
-            mode = mode_named(&text[at..end]);
-            from = cut.next;
+            begun = Some(Begun {
+                mode: mode_named(line),
+                from: cut.next,
+            });
         }
         at = cut.next;
     }
-    run(text, from, at, mode);
+    run(text, begun, at);
 }
 
+// Room for a sheet, in a function of its own: where `main` makes the array, the check does not end.
 fn room() -> [u8; MOST_TEXT]
     ensures { 524288 ≡ length result }
 {

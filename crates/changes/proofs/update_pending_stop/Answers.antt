@@ -1,12 +1,13 @@
 -- `changes::update_pending_stop` meets its contract: a cancel, a refusal, or the stop replaced.
 use mathlib.Core.Path.{sym, ◌∙◌}
 use native.Mathlib.Omega.{arith}
+use Rattle.std.proofs.lemmas.Result.{err_from_is_err_and}
 use Rattle.error.proofs.Verdicts.{all_yes, one_no}
 use Rattle.book.proofs.ChangedBook.{change_changeable}
 use Rattle.book.specs.Words.{book_of}
 use Rattle.pending_stops.proofs.Found.{beyond, well_formed-stored, missing, found, found_record, found_member}
 use Rattle.store_words.proofs.ChainsOf.{well_formed_room}
-use Rattle.book.specs.Answers.{told_stop}
+use Rattle.error.specs.Answer.{told_answer}
 use Rattle.admission.proofs.AdmissionQuestions.{next_word_lem}
 use Rattle.changes.proofs.ChangedStop.{outcome_parts, update-cancels, update_unformed, update-missing, update_refused, replaced-valid, replaced_fits, update_done}
 use borrow.Author.Rules.{rules}
@@ -21,7 +22,7 @@ returns-then-cancels c =
     }
 
 pub returns-then-not-well_formed : goal.returns-then-not-well_formed
-unfolding told_stop
+unfolding told_answer
 returns-then-not-well_formed c =
     let o = outcome_parts _ _ (update_unformed _ _ _ _ (sym c.well_formed-2.ensures ∙ c.if-not-well_formed.true)) in
     record {
@@ -38,7 +39,7 @@ find_id-at-requires c =
     (sym c.well_formed-2.ensures ∙ c.if-not-well_formed.false, search rules)
 
 pub returns-then-at-eq0 : goal.returns-then-at-eq0
-unfolding told_stop
+unfolding told_answer
 returns-then-at-eq0 c =
     let o = outcome_parts _ _ (update-missing _ _ _ _ (sym c.well_formed-2.ensures ∙ c.if-not-well_formed.false)
     (missing _ _ _ c.find_id-at.ensures c.if-at-eq0.true)) in
@@ -59,7 +60,7 @@ bounds-s-2 c =
 pub next_after-after-requires : goal.next_after-after-requires
 next_after-after-requires c =
     let w = c.args.s.now in
-    let h = all_yes _ _ c.in-Accepted.is (c.ask_change-verdict.ensures (book_of w) (next_word_lem w)) in
+    let h = all_yes _ _ c.in_ok-ask_change.was (c.ask_change.ensures (book_of w) (next_word_lem w)) in
     λ g. rw (next_word_lem w) at ((change_changeable _ _ _ (book_of w) (sym h)).next_fits g)
 
 pub change-requires : goal.change-requires
@@ -67,7 +68,7 @@ change-requires c =
     let w = c.args.s.now in
     let e = sym c.well_formed-2.ensures ∙ c.if-not-well_formed.false in
     let f = found _ _ _ c.find_id-at.ensures c.if-at-eq0.false in
-    let h = all_yes _ _ c.in-Accepted.is (c.ask_change-verdict.ensures (book_of w) (next_word_lem w)) in
+    let h = all_yes _ _ c.in_ok-ask_change.was (c.ask_change.ensures (book_of w) (next_word_lem w)) in
     let others = sym c.cancels.ensures ∙ c.if-cancels.false in
     let is = c.changed_entry-new.ensures (book_of w) (next_word_lem w) in
     let after = c.next_after-after.ensures in (
@@ -93,27 +94,29 @@ change-requires c =
       }) (omega (arith, c.next_after-after.type_inv)),
     )
 
-pub returns-in-Refused : goal.returns-in-Refused
-unfolding told_stop
-returns-in-Refused c =
-    let w = c.args.s.now in
+pub returns-in_err-ask_change : goal.returns-in_err-ask_change
+unfolding told_answer
+returns-in_err-ask_change c =
+    let p = err_from_is_err_and c.from_residual.result c.from_residual.ensures.1 in
+    rw (p.1, p.2)
+    (let w = c.args.s.now in
     let e = sym c.well_formed-2.ensures ∙ c.if-not-well_formed.false in
     let f = found _ _ _ c.find_id-at.ensures c.if-at-eq0.false in
     let others = sym c.cancels.ensures ∙ c.if-cancels.false in
     let o = outcome_parts _ _ (update_refused _ _ _ w e _ f others _ c.entry_at-t.ensures _
-    (one_no _ _ _ c.in-Refused.is (c.ask_change-verdict.ensures (book_of w) (next_word_lem w)))) in
+    (one_no _ _ _ c.in_err-ask_change.was (c.ask_change.ensures (book_of w) (next_word_lem w)))) in
     record {
       result_value = o.0;
       s_after = o.1;
-    }
+    })
 
-pub returns-in-Accepted : goal.returns-in-Accepted
-unfolding told_stop
-returns-in-Accepted c =
+pub returns : goal.returns
+unfolding told_answer
+returns c =
     let w = c.args.s.now in
     let e = sym c.well_formed-2.ensures ∙ c.if-not-well_formed.false in
     let f = found _ _ _ c.find_id-at.ensures c.if-at-eq0.false in
-    let h = all_yes _ _ c.in-Accepted.is (c.ask_change-verdict.ensures (book_of w) (next_word_lem w)) in
+    let h = all_yes _ _ c.in_ok-ask_change.was (c.ask_change.ensures (book_of w) (next_word_lem w)) in
     let others = sym c.cancels.ensures ∙ c.if-cancels.false in
     let is = c.changed_entry-new.ensures (book_of w) (next_word_lem w) in
     let after = c.next_after-after.ensures in

@@ -9,9 +9,6 @@ use Rattle.children.proofs.complete.Goals as goal
 pub loop-at-init : goal.loop-at-init
 loop-at-init c = doing_first _ _ _ _
 
-pub loop-at-smaller : goal.loop-at-smaller
-loop-at-smaller c = omega (arith, c.loop-at-test.true)
-
 pub loop-at-preserved : goal.loop-at-preserved
 loop-at-preserved c =
     let (b, r, st) = c.requires.by_index in

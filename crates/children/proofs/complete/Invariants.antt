@@ -7,6 +7,3 @@ use Rattle.children.proofs.complete.Given as goal
 
 abbrev pub invariant-loop-at : goal.invariant-loop-at
 invariant-loop-at l = Doing (completed l.settings (book_of l.s)) l.initial.list l.from l.to l.at l.list
-
-abbrev pub decreases-loop-at : goal.decreases-loop-at
-decreases-loop-at l = l.to - l.at

@@ -9,5 +9,5 @@ returns c =
     let a = c.args in
     λ b r st.
     ap (set a.list.now a.at)
-    (completed_words _ b _ _ _ _ _ _ _ c.kind_of.ensures c.side_from.ensures c.limit-limit.ensures
-    c.stop_trigger_order_id-child.ensures c.words-words.ensures (c.pending_word-pending.ensures b r st))
+    (completed_words _ b _ _ _ _ _ _ _ c.kind_of.ensures c.side_from.ensures c.limit_under-limit.ensures
+    c.stop_trigger_order_id-child.ensures c.limit_words-words.ensures (c.pending_word-pending.ensures b r st))

@@ -1,9 +1,7 @@
--- `forecast_input::read_words` meets its contract. The invariant: the first k words are read. The measure is what is left
--- of the slice.
-use Prim.Native.Nat.{◌-◌}
+-- `forecast_input::read_words` meets its contract. The invariant: the first k words are read.
 use mathlib.Core.Path.{◌≡◌, refl, sym, ap, ◌∙◌}
 use native.Mathlib.Omega.{arith}
-use lib.ListN.{length, length-set}
+use lib.ListN.{length}
 use lib.Seq.{take_all}
 use Rattle.forecast_input.specs.Input.{words_at}
 use Rattle.forecast_input.proofs.Words.{read_turn}
@@ -11,18 +9,12 @@ use Rattle.forecast_input.proofs.read_words.Goals as goal
 
 pub loop-k-init : goal.loop-k-init
 unfolding words_at
-loop-k-init c = (omega arith, refl, refl)
+loop-k-init c = refl
 
 pub loop-k-preserved : goal.loop-k-preserved
-loop-k-preserved c = (
-  omega arith,
-  simp length-set c.loop-k.invariant.1,
-  read_turn _ _ _ _ _ (omega arith) c.loop-k.invariant.2 c.word_at.ensures,
-)
+loop-k-preserved c = read_turn _ _ _ _ _ (omega arith) c.loop-k.invariant c.word_at.ensures
 
 pub returns : goal.returns
 returns c =
-    let e : c.loop-k.k ≡ length c.loop-k.words = omega arith in
     let f : c.loop-k.k ≡ length c.args.words.now = omega arith in
-    sym (take_all c.loop-k.k c.loop-k.words (omega arith)) ∙ c.loop-k.invariant.2
-    ∙ ap (words_at _ _) f
+    sym (take_all c.loop-k.k c.loop-k.words (omega arith)) ∙ c.loop-k.invariant ∙ ap (words_at _ _) f

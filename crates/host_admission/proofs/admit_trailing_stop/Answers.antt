@@ -22,7 +22,7 @@ returns-then-not-path_known c =
 pub returns : goal.returns
 returns c =
     let admitted = c.admit_trailing_stop-admitted.ensures in
-    let told = rw admitted.answer_value at c.of_admission.ensures in
+    let told = rw admitted.answer_value at c.answer.ensures in
     let path-left = rw admitted.path_value at c.path_words.ensures in
     let id = is_known c.id_known.ensures c.if-not-id_known.false in
     let terms = is_known c.terms_known.ensures c.if-not-terms_known.false in

@@ -9,7 +9,7 @@ unfolding number answered
 returns c =
     let known = is_known c.side_known.ensures c.if-not-side_known.false in
     rw (known, ← c.protection_of-protection.ensures, ← c.side_from.ensures)
-    (refl, rw c.limit-limit.ensures at c.words.ensures)
+    (refl, rw c.limit_under-limit.ensures at c.limit_words.ensures)
 
 pub returns-then-not-side_known : goal.returns-then-not-side_known
 unfolding number answered

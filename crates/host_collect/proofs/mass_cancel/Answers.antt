@@ -9,7 +9,7 @@ pub returns : goal.returns
 returns c =
     let known = is_known c.selector_known.ensures c.if-not-selector_known.false in
     rw (known, ← c.selector_of.ensures, ← c.mass_cancel-cancelled.ensures.0)
-    (c.of_list.ensures, c.mass_cancel-cancelled.ensures.1, c.mass_cancel-cancelled.ensures.2)
+    (c.answer.ensures, c.mass_cancel-cancelled.ensures.1, c.mass_cancel-cancelled.ensures.2)
 
 pub returns-then-not-selector_known : goal.returns-then-not-selector_known
 unfolding number answered written

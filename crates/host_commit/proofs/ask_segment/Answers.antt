@@ -3,6 +3,6 @@ use Rattle.host_commit.proofs.ask_segment.Goals as goal
 
 pub returns : goal.returns
 returns c =
-    let told = rw c.ask_segment-asked.ensures.0 at c.of_evaluation.ensures in
+    let told = rw c.ask_segment-asked.ensures.0 at c.answer.ensures in
     rw (← c.settings_of-of.ensures, ← c.prints_of-over.ensures)
     (told, c.ask_segment-asked.ensures.1, c.ask_segment-asked.ensures.2)

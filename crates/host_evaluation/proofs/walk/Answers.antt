@@ -3,6 +3,6 @@ use Rattle.host_evaluation.proofs.walk.Goals as goal
 
 pub returns : goal.returns
 returns c =
-    let told = rw c.walk-evaluated.ensures.0 at c.of_evaluation.ensures in
+    let told = rw c.walk-evaluated.ensures.0 at c.answer.ensures in
     rw (← c.settings_of-of.ensures, ← c.last_price_of-before.ensures)
     (told, c.walk-evaluated.ensures.1, c.walk-evaluated.ensures.2)

@@ -3,4 +3,4 @@ use Rattle.host_ladder.proofs.ladder.Goals as goal
 
 pub returns : goal.returns
 returns c =
-    rw (← c.ladder-listed.ensures.0) (c.of_list.ensures, c.ladder-listed.ensures.1)
+    rw (← c.ladder-listed.ensures.0) (c.answer.ensures, c.ladder-listed.ensures.1)

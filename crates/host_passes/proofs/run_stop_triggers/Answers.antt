@@ -13,7 +13,7 @@ pub returns : goal.returns
 unfolding run_by_words hosted_run
 returns c =
     let known = sym c.path_known.ensures ∙ c.if-not-path_known.false in
-    let told = rw c.run_stop_triggers-run.ensures.0 at c.of_pass.ensures in
+    let told = rw c.run_stop_triggers-run.ensures.0 at c.answer.ensures in
     let path = c.path_words.ensures ∙ ap path_words c.run_stop_triggers-run.ensures.3 in
     rw (known, ← c.settings_of-of.ensures, ← c.last_price_of-last.ensures, ← c.path_of.ensures)
     (told, c.run_stop_triggers-run.ensures.1, c.run_stop_triggers-run.ensures.2, path)

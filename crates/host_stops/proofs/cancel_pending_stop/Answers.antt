@@ -8,7 +8,7 @@ pub returns : goal.returns
 returns c =
     let known = is_known c.id_known.ensures c.if-not-id_known.false in
     rw (known, ← c.id_of-of.ensures)
-    (rw c.cancel_pending_stop-cancelled.ensures.result_value at c.of_stop.ensures, c.cancel_pending_stop-cancelled.ensures.s_after)
+    (rw c.cancel_pending_stop-cancelled.ensures.result_value at c.answer.ensures, c.cancel_pending_stop-cancelled.ensures.s_after)
 
 pub returns-then-not-id_known : goal.returns-then-not-id_known
 unfolding number answered

@@ -7,7 +7,7 @@ use Rattle.host_stops.proofs.pending_stop_order.Goals as goal
 pub returns : goal.returns
 returns c =
     let known = is_known c.id_known.ensures c.if-not-id_known.false in
-    rw (known, ← c.id_of-of.ensures) (rw c.pending_stop_order-found.ensures at c.of_find.ensures)
+    rw (known, ← c.id_of-of.ensures) (rw c.pending_stop_order-found.ensures at c.answer.ensures)
 
 pub returns-then-not-id_known : goal.returns-then-not-id_known
 unfolding number answered

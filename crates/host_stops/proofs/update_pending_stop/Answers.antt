@@ -16,7 +16,7 @@ returns c =
     let id = is_known c.id_known.ensures c.if-not-id_known.false in
     let update = is_known c.update_known.ensures c.if-not-update_known.false in
     rw (id, update, ← c.id_of-of.ensures, ← c.update_of-change.ensures, ← c.last_price_of-last.ensures)
-    (rw c.update_pending_stop-changed.ensures.result_value at c.of_stop.ensures, c.update_pending_stop-changed.ensures.s_after)
+    (rw c.update_pending_stop-changed.ensures.result_value at c.answer.ensures, c.update_pending_stop-changed.ensures.s_after)
 
 pub returns-then-not-id_known : goal.returns-then-not-id_known
 unfolding number answered

@@ -2,4 +2,4 @@
 use Rattle.host_store.proofs.pending_stop_quantity.Goals as goal
 
 pub returns : goal.returns
-returns c = rw c.pending_stop_quantity.ensures at c.of_quantity.ensures
+returns c = rw c.pending_stop_quantity.ensures at c.answer.ensures

@@ -6,14 +6,14 @@ pub returns-in-None : goal.returns-in-None
 unfolding inconsistency_number
 returns-in-None c = rw c.in-None.is
 
-pub returns-in-ZeroTrail : goal.returns-in-ZeroTrail
+pub returns-in-Some-ZeroTrail : goal.returns-in-Some-ZeroTrail
 unfolding inconsistency_number
-returns-in-ZeroTrail c = rw c.in-ZeroTrail.is
+returns-in-Some-ZeroTrail c = let h = rw c.in-Some-ZeroTrail.is at c.in-Some-ZeroTrail.field-0-is in rw (c.in-Some-ZeroTrail.is, h)
 
-pub returns-in-SellAboveWatermark : goal.returns-in-SellAboveWatermark
+pub returns-in-Some-SellAboveWatermark : goal.returns-in-Some-SellAboveWatermark
 unfolding inconsistency_number
-returns-in-SellAboveWatermark c = rw c.in-SellAboveWatermark.is
+returns-in-Some-SellAboveWatermark c = let h = rw c.in-Some-SellAboveWatermark.is at c.in-Some-SellAboveWatermark.field-0-is in rw (c.in-Some-SellAboveWatermark.is, h)
 
-pub returns-in-BuyBelowWatermark : goal.returns-in-BuyBelowWatermark
+pub returns-in-Some-BuyBelowWatermark : goal.returns-in-Some-BuyBelowWatermark
 unfolding inconsistency_number
-returns-in-BuyBelowWatermark c = rw c.in-BuyBelowWatermark.is
+returns-in-Some-BuyBelowWatermark c = let h = rw c.in-Some-BuyBelowWatermark.is at c.in-Some-BuyBelowWatermark.field-0-is in rw (c.in-Some-BuyBelowWatermark.is, h)

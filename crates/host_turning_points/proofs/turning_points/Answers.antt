@@ -3,4 +3,4 @@ use Rattle.host_turning_points.proofs.turning_points.Goals as goal
 
 pub returns : goal.returns
 returns c =
-    rw (← c.turning_points-listed.ensures.0) (c.of_list.ensures, c.turning_points-listed.ensures.1)
+    rw (← c.turning_points-listed.ensures.0) (c.answer.ensures, c.turning_points-listed.ensures.1)

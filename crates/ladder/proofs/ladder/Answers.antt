@@ -2,9 +2,10 @@
 use mathlib.Core.List.{map}
 use native.Mathlib.Omega.{arith}
 use lib.ListN.{get_or, length-map}
+use Rattle.std.proofs.lemmas.Result.{err_from_is_err_and}
 use Rattle.error.proofs.Verdicts.{all_yes, one_no}
 use Rattle.book.proofs.BySequence.{by_sequence_holds}
-use Rattle.book.specs.Answers.{told_list}
+use Rattle.error.specs.Answer.{told_answer}
 use Rattle.book.specs.BySequence.{by_sequence}
 use Rattle.book.specs.Words.{book_of}
 use Rattle.by_sequence.proofs.Sequenced.{indices-named, begins_count, begins_inside}
@@ -15,12 +16,12 @@ use Rattle.ladder.proofs.ladder.Goals as goal
 
 pub bounds-s-0 : goal.bounds-s-0
 bounds-s-0 c =
-    let h = all_yes _ _ c.in-Accepted.is c.ask_ladder-verdict.ensures in
+    let h = all_yes _ _ c.in_ok-ask_ladder.was c.ask_ladder.ensures in
     omega (arith, (well_formed_room _ (ladder-formed _ _ _ h)).room)
 
 pub by_sequence-k-requires : goal.by_sequence-k-requires
 by_sequence-k-requires c =
-    let h = all_yes _ _ c.in-Accepted.is c.ask_ladder-verdict.ensures in
+    let h = all_yes _ _ c.in_ok-ask_ladder.was c.ask_ladder.ensures in
     let room = well_formed_room _ (ladder-formed _ _ _ h) in
     (room, room.few)
 
@@ -28,7 +29,7 @@ pub list_entries-requires : goal.list_entries-requires
 unfolding book_of
 list_entries-requires c =
     let w = c.args.s.now in
-    let h = all_yes _ _ c.in-Accepted.is c.ask_ladder-verdict.ensures in
+    let h = all_yes _ _ c.in_ok-ask_ladder.was c.ask_ladder.ensures in
     let ss = (book_of w).slots in
     let g = c.by_sequence-k.ensures.0 in
     record {
@@ -40,16 +41,18 @@ list_entries-requires c =
       prices_len_bound = rw length-map at (ladder_few _ w _ h);
     }
 
-pub returns-in-Refused : goal.returns-in-Refused
-unfolding told_list
-returns-in-Refused c =
+pub returns-in_err-ask_ladder : goal.returns-in_err-ask_ladder
+unfolding told_answer
+returns-in_err-ask_ladder c =
     let g = c.args in
-    ladder_refused (map to_price g.prices.now) g.s.now g.list.now _
-    (one_no _ _ _ c.in-Refused.is c.ask_ladder-verdict.ensures)
+    let p = err_from_is_err_and c.from_residual.result c.from_residual.ensures.1 in
+    rw (p.1, p.2)
+    (ladder_refused (map to_price g.prices.now) g.s.now g.list.now _
+    (one_no _ _ _ c.in_err-ask_ladder.was c.ask_ladder.ensures))
 
-pub returns-in-Accepted : goal.returns-in-Accepted
-unfolding told_list book_of
-returns-in-Accepted c =
+pub returns : goal.returns
+unfolding told_answer book_of
+returns c =
     let g = c.args in
-    let h = all_yes _ _ c.in-Accepted.is c.ask_ladder-verdict.ensures in
+    let h = all_yes _ _ c.in_ok-ask_ladder.was c.ask_ladder.ensures in
     ladder_done (map to_price g.prices.now) g.s.now g.list.now _ _ _ h c.by_sequence-k.ensures.0 c.list_entries.ensures

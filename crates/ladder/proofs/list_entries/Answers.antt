@@ -45,9 +45,3 @@ offset_bounds-order-i c = omega arith
 
 pub bounds-order-i : goal.bounds-order-i
 bounds-order-i c = omega arith
-
-pub overflow_add-i : goal.overflow_add-i
-overflow_add-i c = omega arith
-
-pub loop-i-smaller : goal.loop-i-smaller
-loop-i-smaller c = omega arith

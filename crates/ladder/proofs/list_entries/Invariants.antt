@@ -9,6 +9,3 @@ use Rattle.ladder.proofs.list_entries.Given as goal
 
 abbrev pub invariant-loop-i : goal.invariant-loop-i
 invariant-loop-i l = (l.i ≤ l.m) × (l.list ≡ listed (ladder_words_in (map to_price l.prices) l.s) l.order l.m l.initial.list l.i)
-
-abbrev pub decreases-loop-i : goal.decreases-loop-i
-decreases-loop-i l = l.m - l.i

@@ -11,7 +11,7 @@ pub returns : goal.returns
 returns c =
     let e = ap (λ l. commit_call (same_words l c.args.moved.now) c.args.settings c.args.prints c.args.s.now)
     (put_first handed_words c.args.elected.now (most_records + 1) c.least-room.result
-    (replicate (most_records + 1) (replicate elected_length 0)) c.read_elected.new.words c.least-room.ensures
-    c.read_elected.ensures)
+    (replicate (most_records + 1) (replicate elected_length 0)) c.read.new.words c.least-room.ensures
+    c.read.ensures)
     ∙ elected_read c.args.settings c.args.prints c.args.s.now c.args.moved.now c.args.elected.now in
     (c.commit_segment.ensures.0 ∙ ap (λ o. o.answer) e, c.commit_segment.ensures.1 ∙ ap (λ o. o.words) e)

@@ -12,7 +12,7 @@ pub returns : goal.returns
 returns c =
     let e = ap (λ l. commit_call (same_elected_records c.args.elected.now l) c.args.settings c.args.prints c.args.s.now)
     (put_first moved_words c.args.moved.now (2 * most_records + 1) c.least-room.result
-    (replicate (2 * most_records + 1) (replicate moved_length 0)) c.read_moved.new.words c.least-room.ensures
-    c.read_moved.ensures)
+    (replicate (2 * most_records + 1) (replicate moved_length 0)) c.read.new.words c.least-room.ensures
+    c.read.ensures)
     ∙ moved_read c.args.settings c.args.prints c.args.s.now c.args.elected.now c.args.moved.now in
     (c.commit_moving.ensures.0 ∙ ap (λ o. o.answer) e, c.commit_moving.ensures.1 ∙ ap (λ o. o.words) e)

@@ -1,17 +1,17 @@
 -- `segment` meets its contract: it did what a segment does with the room of the list, and the moved are read from their
 -- words.
-use Rattle.std.proofs.Common.{length, replicate, ap, ◌∙◌}
+use Rattle.std.proofs.Common.{arith, length, replicate, ap, ◌∙◌}
 use Rattle.book.specs.Calls.{written}
 use Rattle.book.specs.Sizes.{moved_length}
 use Rattle.word_rooms.proofs.Listings.{reads}
 use Rattle.lent_segment.proofs.Outcomes.{moving}
 use Rattle.lent_segment.proofs.segment.Goals as goal
 
-pub fill_moved-requires : goal.fill_moved-requires
-fill_moved-requires c =
+pub fill-requires : goal.fill-requires
+fill-requires c =
     let r = reads (moving c.args.settings c.args.prints c.args.s.now (length c.args.elected.now))
     (length c.args.moved.now) (replicate moved_length 0) c.least-room.ensures c.segment_moving-answer.ensures.2 in
-    r.fits _ (cc)
+    (omega arith, r.fits _ (cc))
 
 pub returns : goal.returns
 returns c =
@@ -20,5 +20,5 @@ returns c =
       c.segment_moving-answer.ensures.0 ∙ ap (λ o. o.answer) r.same,
       c.segment_moving-answer.ensures.1 ∙ ap (λ o. o.words) r.same,
       c.segment_moving-answer.ensures.3 ∙ ap (λ o. written o.elected c.args.elected.now) r.same,
-      r.filled _ c.args.moved.now c.fill_moved.new.list c.fill_moved.ensures (cc),
+      r.filled _ c.args.moved.now c.fill.new.list c.fill.ensures (cc),
     )

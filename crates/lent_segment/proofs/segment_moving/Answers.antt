@@ -1,6 +1,6 @@
 -- `segment_moving` meets its contract: it did what a segment does with the room of the list, and the elected are read
 -- from their words.
-use Rattle.std.proofs.Common.{length, replicate, map, ap, ◌∙◌}
+use Rattle.std.proofs.Common.{arith, length, replicate, map, ap, ◌∙◌}
 use Rattle.book.specs.Calls.{written}
 use Rattle.book.specs.Entries.{moved_words}
 use Rattle.book.specs.Sizes.{elected_length}
@@ -8,11 +8,11 @@ use Rattle.word_rooms.proofs.Listings.{reads}
 use Rattle.lent_segment.proofs.Outcomes.{electing}
 use Rattle.lent_segment.proofs.segment_moving.Goals as goal
 
-pub fill_elected-requires : goal.fill_elected-requires
-fill_elected-requires c =
+pub fill-requires : goal.fill-requires
+fill-requires c =
     let r = reads (electing c.args.settings c.args.prints c.args.s.now (length c.args.moved.now))
     (length c.args.elected.now) (replicate elected_length 0) c.least-room.ensures c.segment-answer.ensures.2 in
-    r.fits _ (cc)
+    (omega arith, r.fits _ (cc))
 
 pub returns : goal.returns
 returns c =
@@ -21,5 +21,5 @@ returns c =
       c.segment-answer.ensures.0 ∙ ap (λ o. o.answer) r.same,
       c.segment-answer.ensures.1 ∙ ap (λ o. o.words) r.same,
       c.segment-answer.ensures.3 ∙ ap (λ o. written (map moved_words o.moved) c.args.moved.now) r.same,
-      r.filled _ c.args.elected.now c.fill_elected.new.list c.fill_elected.ensures (cc),
+      r.filled _ c.args.elected.now c.fill.new.list c.fill.ensures (cc),
     )

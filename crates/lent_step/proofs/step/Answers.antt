@@ -1,16 +1,16 @@
 -- `step` meets its contract: it did what a step does with the room of the list, and the moved are read from their words.
-use Rattle.std.proofs.Common.{length, replicate, ap, ◌∙◌}
+use Rattle.std.proofs.Common.{arith, length, replicate, ap, ◌∙◌}
 use Rattle.book.specs.Calls.{written}
 use Rattle.book.specs.Sizes.{moved_length}
 use Rattle.word_rooms.proofs.Listings.{reads}
 use Rattle.lent_step.proofs.Outcomes.{moving}
 use Rattle.lent_step.proofs.step.Goals as goal
 
-pub fill_moved-requires : goal.fill_moved-requires
-fill_moved-requires c =
+pub fill-requires : goal.fill-requires
+fill-requires c =
     let r = reads (moving c.args.settings c.args.print c.args.s.now (length c.args.elected.now))
     (length c.args.moved.now) (replicate moved_length 0) c.least-room.ensures c.step_moving-answer.ensures.2 in
-    r.fits _ (cc)
+    (omega arith, r.fits _ (cc))
 
 pub returns : goal.returns
 returns c =
@@ -19,5 +19,5 @@ returns c =
       c.step_moving-answer.ensures.0 ∙ ap (λ o. o.answer) r.same,
       c.step_moving-answer.ensures.1 ∙ ap (λ o. o.words) r.same,
       c.step_moving-answer.ensures.3 ∙ ap (λ o. written o.elected c.args.elected.now) r.same,
-      r.filled _ c.args.moved.now c.fill_moved.new.list c.fill_moved.ensures (cc),
+      r.filled _ c.args.moved.now c.fill.new.list c.fill.ensures (cc),
     )

@@ -48,11 +48,5 @@ loop-i-preserved c =
 pub returns : goal.returns
 returns c = λ b r selector st g. leaving_end (c.loop-i.invariant.2 b r selector st g) (omega arith)
 
-pub overflow_add-i : goal.overflow_add-i
-overflow_add-i c = omega arith
-
-pub loop-i-smaller : goal.loop-i-smaller
-loop-i-smaller c = omega arith
-
 pub shape_of-s : goal.shape_of-s
 shape_of-s c = c.loop-i.invariant.1

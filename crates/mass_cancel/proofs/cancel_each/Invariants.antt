@@ -16,6 +16,3 @@ invariant-loop-i l = (l.i ≤ l.m) × (length l.s ≡ length l.initial.s)
     × ((b : Book) (r : List ℕ) (selector : Selector) → Stored l.n l.initial.s b r
     → Begins l.order l.m (indices (selected selector b.slots))
     → Leaving l.n l.order l.m l.i l.s r (vacated_each (selected selector b.slots) b))
-
-abbrev pub decreases-loop-i : goal.decreases-loop-i
-decreases-loop-i l = l.m - l.i

@@ -3,13 +3,13 @@
 use Prim.Native.Nat.{◌-◌}
 use mathlib.Core.Path.{sym}
 use native.Mathlib.Omega.{arith}
-use Rattle.passing.proofs.Passes.{vacant, passes_first, passes_queued, count_inside, script-within, segment_asks, moves_word, head_few, passes_next, passes_none, passes_empty}
+use Rattle.passing.proofs.Passes.{others_at_start, passes_first, passes_queued, count_inside, script-within, segment_asks, moves_word, head_few, passes_next, passes_none, passes_empty}
 use Rattle.passing.proofs.pass.Goals as goal
 
 pub loop-next-init : goal.loop-next-init
 loop-next-init c =
     let f = c.requires.script_value in let (b, r, st, long) = c.requires.by_index in
-    passes_first _ _ vacant c.segment_words.ensures (omega arith) f st long
+    passes_first _ (others_at_start c.args.prints) (omega arith) f st long
 
 pub slice_bounds-segment_at-end : goal.slice_bounds-segment_at-end
 slice_bounds-segment_at-end c = sym c.loop-next.invariant.same_queue
@@ -54,12 +54,12 @@ pass_segment-run-requires c =
 pub overflow_add-head : goal.overflow_add-head
 overflow_add-head c =
     record {
-      fits = omega (arith, head_few c.loop-next.invariant c.in-Next.is c.segment_at.ensures);
+      fits = omega (arith, head_few c.loop-next.invariant c.in-Some.is c.segment_at.ensures);
     }
 
 pub overflow_add-moves : goal.overflow_add-moves
 overflow_add-moves c =
-    let h = passes_next c.loop-next.invariant c.in-Next.is c.segment_at.ensures c.if-s-eq0.false
+    let h = passes_next c.loop-next.invariant c.in-Some.is c.segment_at.ensures c.if-s-eq0.false
     c.pass_segment-run.ensures
     c.pass_segment-run.auto.s c.pass_segment-run.auto.list
     c.pass_segment-run.auto.queue in
@@ -67,7 +67,7 @@ overflow_add-moves c =
 
 pub overflow_add-used : goal.overflow_add-used
 overflow_add-used c =
-    let h = passes_next c.loop-next.invariant c.in-Next.is c.segment_at.ensures c.if-s-eq0.false
+    let h = passes_next c.loop-next.invariant c.in-Some.is c.segment_at.ensures c.if-s-eq0.false
     c.pass_segment-run.ensures
     c.pass_segment-run.auto.s c.pass_segment-run.auto.list
     c.pass_segment-run.auto.queue in
@@ -75,11 +75,11 @@ overflow_add-used c =
 
 pub loop-next-smaller : goal.loop-next-smaller
 loop-next-smaller c =
-    omega (arith, head_few c.loop-next.invariant c.in-Next.is c.segment_at.ensures)
+    omega (arith, head_few c.loop-next.invariant c.in-Some.is c.segment_at.ensures)
 
 pub loop-next-preserved : goal.loop-next-preserved
 loop-next-preserved c =
-    let h = passes_next c.loop-next.invariant c.in-Next.is c.segment_at.ensures c.if-s-eq0.false
+    let h = passes_next c.loop-next.invariant c.in-Some.is c.segment_at.ensures c.if-s-eq0.false
     c.pass_segment-run.ensures
     c.pass_segment-run.auto.s c.pass_segment-run.auto.list
     c.pass_segment-run.auto.queue in
@@ -87,9 +87,9 @@ loop-next-preserved c =
 
 pub returns-in_default : goal.returns-in_default
 returns-in_default c =
-    passes_none _ _ vacant c.segment_words.ensures c.loop-next.invariant c.in_default.is
+    passes_none _ (others_at_start c.args.prints) c.loop-next.invariant c.in_default.is
     c.segment_at.ensures
 
 pub returns-then-s-eq0 : goal.returns-then-s-eq0
 returns-then-s-eq0 c =
-    passes_empty _ _ vacant c.segment_words.ensures c.loop-next.invariant c.if-s-eq0.true
+    passes_empty _ (others_at_start c.args.prints) c.loop-next.invariant c.if-s-eq0.true

@@ -9,23 +9,17 @@ loop-i-init c = summed_none _ _ _
 pub quantity_on-quantity-requires : goal.quantity_on-quantity-requires
 quantity_on-quantity-requires c = record {
   least = c.loop-i.invariant.least;
-  most = c.loop-i-test.true;
+  most = omega arith;
   inside = c.requires;
 }
 
 pub plus-sum-requires : goal.plus-sum-requires
 plus-sum-requires c = omega (arith, c.requires.few)
 
-pub overflow_add-i : goal.overflow_add-i
-overflow_add-i c = omega (arith, c.requires.few)
-
-pub loop-i-smaller : goal.loop-i-smaller
-loop-i-smaller c = omega arith
-
 pub loop-i-preserved : goal.loop-i-preserved
 loop-i-preserved c =
-    summed_more _ _ _ _ _ _ _ c.loop-i-test.true c.loop-i.invariant c.quantity_on-quantity.ensures
+    summed_more _ _ _ _ _ _ _ (omega arith) c.loop-i.invariant c.quantity_on-quantity.ensures
     c.plus-sum.ensures.result_value c.plus-sum.ensures.high_bound
 
 pub returns : goal.returns
-returns c = summed_all _ _ _ _ _ c.loop-i-test.false c.loop-i.invariant
+returns c = summed_all _ _ _ _ _ (omega arith) c.loop-i.invariant

@@ -42,9 +42,6 @@ overflow_add-moves c =
       fits = omega (arith, few, c.loop-i.invariant.few-moves, i, c.requires.in_bounds);
     }
 
-pub loop-i-smaller : goal.loop-i-smaller
-loop-i-smaller c = omega (arith, c.loop-i-test.true)
-
 pub loop-i-preserved : goal.loop-i-preserved
 loop-i-preserved c =
     let (b, r, st, room) = c.requires.by_index in

@@ -6,6 +6,3 @@ use Rattle.price_walk.proofs.walk_points.Given as goal
 abbrev pub invariant-loop-i : goal.invariant-loop-i
 invariant-loop-i l =
     Walked l.kill l.falls l.initial.from l.prices l.n l.initial.s l.s l.initial.list l.list l.from l.moves l.at l.i
-
-abbrev pub decreases-loop-i : goal.decreases-loop-i
-decreases-loop-i l = l.count - l.i

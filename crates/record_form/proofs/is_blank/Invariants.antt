@@ -1,13 +1,10 @@
 -- `record_form::is_blank` meets its contract. The loop's invariant: what is left of the test is the whole test.
-use Prim.Native.Nat.{◌+◌}
+use Prim.Native.Nat.{◌-◌}
 use mathlib.Core.Path.{◌≡◌}
 use Rattle.book.specs.Lists.{every, rising}
 use Rattle.book.specs.Sizes.{record_length}
 use Rattle.form_check.specs.Check.{blank_at, blank}
 use Rattle.record_form.proofs.is_blank.Given as goal
 
-abbrev pub invariant-loop-left : goal.invariant-loop-left
-invariant-loop-left l = (l.k + l.left ≡ record_length) × (blank l.s l.i ≡ every (blank_at l.s l.i) (rising l.k l.left))
-
-abbrev pub decreases-loop-left : goal.decreases-loop-left
-decreases-loop-left l = l.left
+abbrev pub invariant-loop-k : goal.invariant-loop-k
+invariant-loop-k l = blank l.s l.i ≡ every (blank_at l.s l.i) (rising l.k (record_length - l.k))

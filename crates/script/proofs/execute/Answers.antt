@@ -1,5 +1,4 @@
 -- `script::execute` meets its contract: before each turn the elected have executed up to entry i.
-use Prim.Native.Nat.{◌-◌}
 use native.Mathlib.Omega.{arith}
 use Rattle.script.proofs.Executions.{progress_start, progress_next, progress_end, progress_room}
 use Rattle.script.proofs.Queue.{enqueued_length}
@@ -18,20 +17,14 @@ pub execute_one-after-requires : goal.execute_one-after-requires
 execute_one-after-requires c =
     let f = c.requires.script_value in let (es, flags, ends, inside, room) = c.requires.flags in
     let (left, p) = c.loop-i.invariant es flags ends in
-    (f, p.within, progress_room left p c.loop-i-test.true room)
-
-pub overflow_add-i : goal.overflow_add-i
-overflow_add-i c = omega arith
-
-pub loop-i-smaller : goal.loop-i-smaller
-loop-i-smaller c = omega (arith, c.loop-i-test.true)
+    (f, p.within, progress_room left p (omega arith) room)
 
 pub loop-i-preserved : goal.loop-i-preserved
 loop-i-preserved c =
     let f = c.requires.script_value in let (es₀, flags₀, ends₀, inside, room) = c.requires.flags in
     λ es flags ends.
     let (left, p) = c.loop-i.invariant es flags ends in
-    progress_next left p c.loop-i-test.true f _ _ _ c.execute_one-after.ensures
+    progress_next left p (omega arith) f _ _ _ c.execute_one-after.ensures
 
 pub shape_of-queue : goal.shape_of-queue
 shape_of-queue c =
@@ -44,6 +37,6 @@ returns c =
     let f = c.requires.script_value in let (es₀, flags₀, ends₀, inside, room) = c.requires.flags in
     let (left₀, p₀) = c.loop-i.invariant es₀ flags₀ ends₀ in
     record {
-      used_value = (λ es flags ends. let (left, p) = c.loop-i.invariant es flags ends in progress_end left p c.loop-i-test.false);
+      used_value = (λ es flags ends. let (left, p) = c.loop-i.invariant es flags ends in progress_end left p (omega arith));
       used_in_bounds = (p₀.within, omega (arith, p₀.few, p₀.adds.ends, ends₀));
     }

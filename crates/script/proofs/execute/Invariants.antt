@@ -1,5 +1,5 @@
 -- `script::execute` meets its contract: before each turn the elected have executed up to entry i.
-use Prim.Native.Nat.{◌+◌, ◌-◌}
+use Prim.Native.Nat.{◌+◌}
 use mathlib.Core.List.{List}
 use mathlib.Core.Path.{◌≡◌}
 use lib.ListN.{length}
@@ -12,6 +12,3 @@ abbrev pub invariant-loop-i : goal.invariant-loop-i
 invariant-loop-i l =
     (es : List Elected) → Flags l.list l.from es → l.to ≡ l.from + length es
     → (left : List Elected) × Progress l.list l.to l.script es l.initial.queue l.tail l.queue l.used l.end l.i left
-
-abbrev pub decreases-loop-i : goal.decreases-loop-i
-decreases-loop-i l = l.to - l.i

@@ -57,7 +57,7 @@ shape_of-moved c =
 pub returns : goal.returns
 returns c =
     let falls = c.falls_to-falls.ensures in
-    let known = sym c.in-At.is ∙ c.second_point.ensures in
+    let known = sym c.in-Some.is ∙ c.second_point.ensures in
     let first = rw (c.sells_first.ensures, falls) at c.point-one.ensures in
     listed _ _ _ _ _ _ _ _
     (segment_two _ _ _ _ _ _ _ first _ known _ _ _ (rw (c.sells_first-sells.ensures, falls) at c.point-two.ensures))

@@ -31,5 +31,5 @@ pub returns : goal.returns
 returns c =
     let falls = c.falls_to-falls.ensures in
     segment_two _ _ _ _ _ _ _ (rw (c.sells_first.ensures, falls) at c.point-one.ensures) _
-    (sym c.in-At.is ∙ c.second_point.ensures) _ _ _
+    (sym c.in-Some.is ∙ c.second_point.ensures) _ _ _
     (rw (c.sells_first-sells.ensures, falls) at c.point-two.ensures)

@@ -1,5 +1,4 @@
 -- `selecting::keep_selected` meets its contract: the loop keeps `Keeping`.
-use Prim.Native.Nat.{◌-◌}
 use Rattle.book.specs.Collect.{selects}
 use Rattle.book.specs.Words.{entry_at}
 use Rattle.selecting.proofs.Keeping.{Keeping}
@@ -7,6 +6,3 @@ use Rattle.selecting.proofs.keep_selected.Given as goal
 
 abbrev pub invariant-loop-i : goal.invariant-loop-i
 invariant-loop-i l = Keeping (λ x. selects l.selector (entry_at l.s x)) l.initial.order l.k l.order l.m l.i
-
-abbrev pub decreases-loop-i : goal.decreases-loop-i
-decreases-loop-i l = l.k - l.i

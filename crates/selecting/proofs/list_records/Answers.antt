@@ -3,48 +3,24 @@ use mathlib.Core.List.{[]}
 use native.Mathlib.Omega.{arith}
 use lib.Seq.{paste-zero}
 use Rattle.merging.proofs.Records.{named_among}
-use Rattle.by_sequence.proofs.Listed.{listed_length, listed_next, listed_end}
+use Rattle.by_sequence.proofs.Listed.{listed_next, listed_end}
 use Rattle.selecting.specs.Selecting.{entry_words_in}
 use Rattle.selecting.proofs.list_records.Goals as goal
 
 pub loop-i-init : goal.loop-i-init
-loop-i-init c = (omega arith, paste-zero _ 0 [])
+loop-i-init c = paste-zero _ 0 []
 
 pub entry_at-t-requires : goal.entry_at-t-requires
 entry_at-t-requires c =
-    named_among _ _ _ c.requires.1 c.loop-i-test.true c.requires.0
-
-pub bounds-list-i : goal.bounds-list-i
-bounds-list-i c =
-    omega (arith, listed_length _ _ _ c.requires.1 _ c.requires.2 _ c.loop-i.i c.loop-i.invariant.1 c.loop-i.invariant.0)
+    named_among _ _ _ c.requires.1 (omega arith) c.requires.0
 
 pub loop-i-preserved : goal.loop-i-preserved
 unfolding entry_words_in
 loop-i-preserved c =
-    let h = c.loop-i-test.true in (
-      omega arith,
-      listed_next (entry_words_in c.args.s.now) _ _ c.requires.1 _ c.requires.2 _ c.loop-i.i c.loop-i.invariant.1 h _
-          (rw c.entry_at-t.ensures at c.stop_words.ensures),
-    )
-
-pub shape_of-list : goal.shape_of-list
-shape_of-list c =
-    let l = c.loop-i in
-    listed_length _ _ _ c.requires.1 _ c.requires.2 _ l.i l.invariant.1 l.invariant.0
+    listed_next (entry_words_in c.args.s.now) _ _ c.requires.1 _ c.requires.2 _ c.loop-i.i c.loop-i.invariant
+    (omega arith) _ (rw c.entry_at-t.ensures at c.stop_words.ensures)
 
 pub returns : goal.returns
 returns c =
     let l = c.loop-i in
-    listed_end _ _ _ c.requires.1 _ c.requires.2 _ l.i l.invariant.1 (omega arith)
-
-pub offset_bounds-order-i : goal.offset_bounds-order-i
-offset_bounds-order-i c = omega arith
-
-pub bounds-order-i : goal.bounds-order-i
-bounds-order-i c = omega arith
-
-pub overflow_add-i : goal.overflow_add-i
-overflow_add-i c = omega arith
-
-pub loop-i-smaller : goal.loop-i-smaller
-loop-i-smaller c = omega arith
+    listed_end _ _ _ c.requires.1 _ c.requires.2 _ l.i l.invariant (omega arith)

@@ -9,11 +9,11 @@ returns-in_default c = rw c.in_default.is
 
 pub returns-then-last-price : goal.returns-then-last-price
 unfolding sells_first
-returns-then-last-price c = rw (c.in-At.is, eq-eqb _ _ c.if-last-price.true)
+returns-then-last-price c = rw (c.in-Some.is, eq-eqb _ _ c.if-last-price.true)
 
 pub returns : goal.returns
 unfolding sells_first
 returns c = rw (
-  c.in-At.is,
+  c.in-Some.is,
   ne_eqb _ _ c.if-last-price.false,
 )

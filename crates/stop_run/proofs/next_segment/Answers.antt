@@ -1,10 +1,8 @@
 -- `stop_run::next_segment` meets its contract.
-use Rattle.print_path.specs.Segments.{told_next}
 use Rattle.evaluation.proofs.Passes.{taken-segment}
 use Rattle.stop_run.proofs.next_segment.Goals as goal
 
 pub returns-then-pending-eq0 : goal.returns-then-pending-eq0
-unfolding told_next
 returns-then-pending-eq0 c = rw c.if-pending-eq0.true
 
 pub returns : goal.returns

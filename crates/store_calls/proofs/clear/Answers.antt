@@ -2,12 +2,12 @@
 use mathlib.Core.Path.{sym, ◌∙◌}
 use native.Mathlib.Omega.{arith}
 use Rattle.store_words.proofs.ChainsOf.{well_formed_room}
-use Rattle.book.specs.Answers.{told_layout}
+use Rattle.error.specs.Answer.{told_answer}
 use Rattle.store_calls.proofs.ClearedStore.{some_records, clear_unformed, clear_done}
 use Rattle.store_calls.proofs.clear.Goals as goal
 
 pub returns-then-not-well_formed : goal.returns-then-not-well_formed
-unfolding told_layout
+unfolding told_answer
 returns-then-not-well_formed c =
     let o = clear_unformed _ _ (sym c.well_formed-2.ensures ∙ c.if-not-well_formed.true) in
     record {
@@ -33,7 +33,7 @@ lay_out-requires c =
     (some_records _ e, well_formed_room _ e)
 
 pub returns : goal.returns
-unfolding told_layout
+unfolding told_answer
 returns c =
     let done = clear_done _ _ _ _ (sym c.well_formed-2.ensures ∙ c.if-not-well_formed.false) c.lay_out.ensures
     c.closed-reset.ensures in

@@ -1,9 +1,8 @@
 -- `store_layout::lay_out` meets its contract: before each turn the records before i are laid out.
-use Prim.Native.Nat.{◌-◌}
 use mathlib.Core.Path.{ap, ◌∙◌}
 use lib.ListN.{length}
 use native.Mathlib.Omega.{arith}
-use Rattle.store_words.proofs.EmptyWords.{header_empty, laid_none, laid_length, laid_record, laid_more, laid_all}
+use Rattle.store_words.proofs.EmptyWords.{header_empty, laid_none, laid_more, laid_all}
 use Rattle.store_layout.proofs.lay_out.Goals as goal
 
 pub empty_header-requires : goal.empty_header-requires
@@ -21,17 +20,9 @@ loop-i-init c =
 pub next_free-next-requires : goal.next_free-next-requires
 next_free-next-requires c = c.loop-i.invariant.least
 
-pub overflow_add-i : goal.overflow_add-i
-overflow_add-i c =
-    omega (arith, c.loop-i.invariant.most, c.loop-i.invariant.inside.few)
-
-pub loop-i-smaller : goal.loop-i-smaller
-loop-i-smaller c =
-    omega (arith, c.loop-i-test.true, c.loop-i.invariant.most)
-
 pub loop-i-preserved : goal.loop-i-preserved
 loop-i-preserved c =
-    laid_more _ _ _ _ _ c.loop-i.invariant _ _ c.loop-i-test.true
+    laid_more _ _ _ _ _ c.loop-i.invariant _ _ (omega arith)
     c.next_free-next.ensures
     c.write_free.ensures
 
@@ -39,4 +30,4 @@ pub returns : goal.returns
 returns c =
     laid_all _ _ _ _ _ c.loop-i.invariant _ c.requires.1
     (rw c.empty_header.ensures at c.put_words.ensures)
-    c.loop-i-test.false
+    (omega arith)

@@ -1,30 +1,32 @@
 -- `text_forms::put_form` meets its contract: what is left of the form stands behind what was put.
-use Rattle.text_buffer.proofs.Writing.{left_all, left_byte, left_piece, left_none}
-use Rattle.text_forms.specs.Forms.{form_of}
-use Rattle.text_forms.proofs.Forms.{form_byte, form_piece, form_mark, form_end}
-use borrow.Author.Rules.{rules}
+use Rattle.text_buffer.proofs.Writing.{left_byte, left_piece, left_none}
+use Rattle.text_forms.proofs.Forms.{form_byte, form_mark, form_piece, form_end}
 use native.Mathlib.Omega.{arith}
 use Rattle.text_forms.proofs.put_form.Goals as goal
+use Rattle.text_forms.proofs.put_form.Goals.{then-marked, else-marked+then-b-eq37, else-marked+else-b-eq37}
 
-pub loop-i-init : goal.loop-i-init
-loop-i-init c = (search rules, search rules, search rules, search rules, left_all c.args.buf.now c.args.at (form_of c.args.form.now c.args.values.now))
+pub loop-b-preserved : goal.loop-b-preserved
+loop-b-preserved c =
+    elim c.if-marked.branch [
+      | then-marked w ↦ (
+        omega (arith, w.put_piece-next.ensures.upper_bound),
+        omega (arith, w.takes-v.ensures.upper_bound),
+        rw (w.marked-is, w.v-is, w.next-is, w.buf-is, w.takes-v.ensures.value)
+            (left_piece _ _ (rw w.if-marked.true at c.loop-b.invariant.2) (form_piece c.args.form.now c.args.values.now c.loop-b.b-index c.loop-b.v c.loop-b-test.true) w.put_piece-next.ensures.put),
+      )
+      | else-marked+then-b-eq37 w ↦ (
+        omega arith,
+        omega arith,
+        rw (w.marked-is, w.v-is, w.next-is, w.buf-is)
+            (rw (w.if-marked.false, form_mark c.args.form.now _ c.loop-b.b-index c.loop-b-test.true w.if-b-eq37.true) at c.loop-b.invariant.2),
+      )
+      | else-marked+else-b-eq37 w ↦ (
+        omega arith,
+        omega arith,
+        rw (w.marked-is, w.if-marked.false, w.v-is, w.next-is, w.buf-is)
+            (left_byte _ _ _ (rw w.if-marked.false at c.loop-b.invariant.2) (form_byte _ _ _ c.loop-b-test.true w.if-b-eq37.false) w.put_byte.ensures),
+      )
+    ]
 
-pub loop-i-preserved-then-b-ne37 : goal.loop-i-preserved-then-b-ne37
-loop-i-preserved-then-b-ne37 c = (search rules, search rules, search rules, search rules, left_byte _ _ _ c.loop-i.invariant.4 (form_byte _ _ _ c.loop-i-test.true c.if-b-ne37.true) c.put_byte.ensures)
-
-pub returns-then-i-form : goal.returns-then-i-form
-returns-then-i-form c =
-    record {
-      put = left_none c.loop-i.invariant.4 (form_mark _ _ _ c.loop-i-test.true c.if-i-form.true c.if-b-ne37.false);
-      upper_bound = omega arith;
-    }
-
-pub loop-i-preserved : goal.loop-i-preserved
-loop-i-preserved c = (search rules, search rules, search rules, search rules, rw c.takes-v.ensures.value (left_piece _ _ c.loop-i.invariant.4 (form_piece c.args.form.now c.args.values.now c.loop-i.i c.loop-i.v (omega arith) c.if-b-ne37.false) c.put_piece-next.ensures.put))
-
-pub returns : goal.returns
-returns c =
-    record {
-      put = left_none c.loop-i.invariant.4 (form_end _ _ _ c.loop-i-test.false);
-      upper_bound = omega arith;
-    }
+pub returns-clause-put : goal.returns-clause-put
+returns-clause-put c = left_none c.loop-b.invariant.2 (form_end c.loop-b.marked _ _ _ c.loop-b-test.false)

@@ -6,8 +6,5 @@ use lib.ListN.{length, drop, get_or}
 use Rattle.text_lines.specs.Lines.{lines_of, line_at}
 use Rattle.text_lines.proofs.line_at.Given as goal
 
-abbrev pub invariant-loop-at : goal.invariant-loop-at
-invariant-loop-at l = (l.at ≤ length l.text) × (get_or (lines_of (drop l.at l.text)) l.left [] ≡ line_at l.k l.text)
-
-abbrev pub decreases-loop-at : goal.decreases-loop-at
-decreases-loop-at l = length l.text - l.at
+abbrev pub invariant-loop-i : goal.invariant-loop-i
+invariant-loop-i l = (l.at ≤ length l.text) × (get_or (lines_of (drop l.at l.text)) (l.k - l.i) [] ≡ line_at l.k l.text)

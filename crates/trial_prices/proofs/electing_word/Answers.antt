@@ -6,27 +6,24 @@ use Rattle.trial_prices.proofs.electing_word.Goals as goal
 
 pub overflow_mul-word : goal.overflow_mul-word
 overflow_mul-word c =
-    omega (arith, built_room _ _ c.loop-j.invariant c.requires c.loop-j-test.true)
+    omega (arith, built_room _ _ c.loop-j.invariant c.requires (omega arith))
 
 pub overflow_add-word : goal.overflow_add-word
 overflow_add-word c =
-    omega (arith, built_room _ _ c.loop-j.invariant c.requires c.loop-j-test.true)
+    omega (arith, built_room _ _ c.loop-j.invariant c.requires (omega arith))
 
 pub loop-j-preserved-then-elected_by : goal.loop-j-preserved-then-elected_by
 loop-j-preserved-then-elected_by c =
-    built_next _ _ c.loop-j.invariant c.loop-j-test.true _
+    built_next _ _ c.loop-j.invariant (omega arith) _
     (rw (sym c.elected_by.ensures ∙ c.if-elected_by.true))
 
 pub loop-j-preserved : goal.loop-j-preserved
 loop-j-preserved c =
-    built_next _ _ c.loop-j.invariant c.loop-j-test.true _
+    built_next _ _ c.loop-j.invariant (omega arith) _
     (rw (sym c.elected_by.ensures ∙ c.if-elected_by.false) (omega arith))
 
 pub returns : goal.returns
-returns c = built_end _ _ c.loop-j.invariant (omega (arith, c.loop-j-test.false))
+returns c = built_end _ _ c.loop-j.invariant (omega arith)
 
 pub loop-j-init : goal.loop-j-init
 loop-j-init c = built_start _ _
-
-pub bounds-prices-j : goal.bounds-prices-j
-bounds-prices-j c = omega (arith, c.loop-j.invariant.within)

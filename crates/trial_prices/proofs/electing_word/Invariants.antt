@@ -4,6 +4,3 @@ use Rattle.trial_prices.proofs.electing_word.Given as goal
 
 abbrev pub invariant-loop-j : goal.invariant-loop-j
 invariant-loop-j l = Built l.terms l.prices l.word l.j
-
-abbrev pub decreases-loop-j : goal.decreases-loop-j
-decreases-loop-j l = l.j

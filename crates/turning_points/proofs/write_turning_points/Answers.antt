@@ -1,5 +1,4 @@
 -- `turning_points::write_turning_points` meets its contract: the loop keeps `Turning`.
-use Prim.Native.Nat.{◌-◌}
 use mathlib.Core.Path.{sym, ◌∙◌}
 use native.Mathlib.Omega.{arith}
 use lib.ListN.{length-set}
@@ -26,13 +25,13 @@ bounds-list-count c =
 pub loop-i-preserved-then-not-turns_at : goal.loop-i-preserved-then-not-turns_at
 loop-i-preserved-then-not-turns_at c =
     let l = c.loop-i.invariant in
-    turning_straight l c.loop-i-test.true
+    turning_straight l (omega arith)
     (sym c.turns_at.ensures ∙ c.if-not-turns_at.true)
 
 pub loop-i-preserved : goal.loop-i-preserved
 loop-i-preserved c =
     let l = c.loop-i.invariant in
-    turning_turn l c.loop-i-test.true
+    turning_turn l (omega arith)
     (sym c.turns_at.ensures ∙ c.if-not-turns_at.false)
 
 pub bounds-list-count-2 : goal.bounds-list-count-2
@@ -46,7 +45,7 @@ shape_of-list c =
 
 pub returns : goal.returns
 returns c =
-    turning_end c.args.list.now _ c.loop-i.invariant (omega (arith, c.loop-i-test.false))
+    turning_end c.args.list.now _ c.loop-i.invariant (omega arith)
 
 pub bounds-prices-0 : goal.bounds-prices-0
 bounds-prices-0 c = omega (arith, c.requires.0)
@@ -58,7 +57,7 @@ pub bounds-prices-1 : goal.bounds-prices-1
 bounds-prices-1 c = omega (arith, c.requires.0, c.if-prices-eq1.false)
 
 pub bounds-prices-i : goal.bounds-prices-i
-bounds-prices-i c = c.loop-i-test.true
+bounds-prices-i c = omega arith
 
 pub turns_at-requires : goal.turns_at-requires
 turns_at-requires c = tt

@@ -1,11 +1,6 @@
 -- `turning_points::write_turning_points` meets its contract: the loop keeps `Turning`.
-use Prim.Native.Nat.{◌-◌}
-use lib.ListN.{length}
 use Rattle.turning_points.proofs.Turning.{Turning}
 use Rattle.turning_points.proofs.write_turning_points.Given as goal
 
 abbrev pub invariant-loop-i : goal.invariant-loop-i
 invariant-loop-i l = Turning l.prices l.initial.list l.list l.start l.here l.count l.i
-
-abbrev pub decreases-loop-i : goal.decreases-loop-i
-decreases-loop-i l = length l.prices - l.i

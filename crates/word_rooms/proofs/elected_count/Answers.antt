@@ -1,12 +1,12 @@
 -- `elected_count` meets its contract: each arm knows its variant.
-use Rattle.book.specs.Answers.{told_counts}
+use Rattle.error.specs.Answer.{told_answer}
 use Rattle.evaluation.specs.Counts.{elected_count}
 use Rattle.word_rooms.proofs.elected_count.Goals as goal
 
 pub returns-in-Ok : goal.returns-in-Ok
-unfolding elected_count told_counts
+unfolding elected_count told_answer
 returns-in-Ok c = rw c.in-Ok.is
 
 pub returns-in-Err : goal.returns-in-Err
-unfolding elected_count told_counts
+unfolding elected_count told_answer
 returns-in-Err c = rw c.in-Err.is

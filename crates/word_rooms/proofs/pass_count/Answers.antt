@@ -1,12 +1,12 @@
 -- `pass_count` meets its contract: each arm knows its variant.
-use Rattle.book.specs.Answers.{told_pass}
+use Rattle.error.specs.Answer.{told_answer}
 use Rattle.evaluation.specs.Counts.{pass_count}
 use Rattle.word_rooms.proofs.pass_count.Goals as goal
 
 pub returns-in-Ok : goal.returns-in-Ok
-unfolding pass_count told_pass
+unfolding pass_count told_answer
 returns-in-Ok c = rw c.in-Ok.is
 
 pub returns-in-Err : goal.returns-in-Err
-unfolding pass_count told_pass
+unfolding pass_count told_answer
 returns-in-Err c = rw c.in-Err.is

@@ -1,10 +1,9 @@
 -- `sheets::reading::lines` is safe and ends. The measure is what is left of `text`.
-use Rattle.std.proofs.Common.{◌≡◌, ◌-◌, ◌≤◌, length}
+use Rattle.std.proofs.Common.{◌-◌, ◌≤◌, length}
 use Rattle.sheets.proofs.reading.lines.Given as goal
 
 abbrev pub invariant-loop-at : goal.invariant-loop-at
-invariant-loop-at l = (l.at ≤ length l.text) × (length l.s ≡ length l.initial.s) × (length l.run ≡ length l.initial.run)
-    × (length l.script ≡ length l.initial.script) × (length l.desk ≡ length l.initial.desk) × (length l.out ≡ length l.initial.out)
+invariant-loop-at l = l.at ≤ length l.text
 
 abbrev pub decreases-loop-at : goal.decreases-loop-at
 decreases-loop-at l = length l.text - l.at

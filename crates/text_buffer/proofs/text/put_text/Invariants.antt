@@ -1,12 +1,8 @@
 -- `text_buffer::text::put_text` meets its contract: so much of the text stands in the buffer.
-use Prim.Native.Nat.{◌-◌, ◌≤◌}
 use mathlib.Core.Path.{◌≡◌}
-use lib.ListN.{length, take}
+use lib.ListN.{take}
 use lib.Seq.{sets}
 use Rattle.text_buffer.proofs.text.put_text.Given as goal
 
 abbrev pub invariant-loop-i : goal.invariant-loop-i
-invariant-loop-i l = (l.i ≤ length l.text) × (length l.buf ≡ length l.initial.buf) × (l.buf ≡ sets l.initial.buf l.at (take l.i l.text))
-
-abbrev pub decreases-loop-i : goal.decreases-loop-i
-decreases-loop-i l = length l.text - l.i
+invariant-loop-i l = (l.buf ≡ sets l.initial.buf l.at (take l.i l.text))

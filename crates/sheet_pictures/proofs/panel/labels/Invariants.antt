@@ -1,9 +1,0 @@
--- `sheet_pictures::panel::labels` is safe and ends. The measure is what is left of `stops`.
-use Rattle.std.proofs.Common.{◌≡◌, ◌-◌, ◌≤◌, length}
-use Rattle.sheet_pictures.proofs.panel.labels.Given as goal
-
-abbrev pub invariant-loop-i : goal.invariant-loop-i
-invariant-loop-i l = (l.i ≤ length l.stops) × (length l.desk ≡ length l.initial.desk) × (length l.out ≡ length l.initial.out)
-
-abbrev pub decreases-loop-i : goal.decreases-loop-i
-decreases-loop-i l = length l.stops - l.i

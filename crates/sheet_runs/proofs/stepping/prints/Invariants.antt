@@ -1,9 +1,0 @@
--- `sheet_runs::stepping::prints` is safe and ends. The measure is what is left of `run`.
-use Rattle.std.proofs.Common.{◌≡◌, ◌-◌, ◌≤◌, length}
-use Rattle.sheet_runs.proofs.stepping.prints.Given as goal
-
-abbrev pub invariant-loop-i : goal.invariant-loop-i
-invariant-loop-i l = (l.i ≤ length l.run) × (length l.s ≡ length l.initial.s) × (length l.desk ≡ length l.initial.desk) × (length l.out ≡ length l.initial.out) × (length l.stops ≡ length l.initial.stops) × (length l.marks ≡ length l.initial.marks)
-
-abbrev pub decreases-loop-i : goal.decreases-loop-i
-decreases-loop-i l = length l.run - l.i

@@ -1,9 +1,0 @@
--- `sheet_runs::telling::tell_moves` is safe and ends. The measure is what is left of `moved`.
-use Rattle.std.proofs.Common.{◌≡◌, ◌-◌, ◌≤◌, length}
-use Rattle.sheet_runs.proofs.telling.tell_moves.Given as goal
-
-abbrev pub invariant-loop-i : goal.invariant-loop-i
-invariant-loop-i l = (l.i ≤ length l.moved) × (length l.desk ≡ length l.initial.desk) × (length l.out ≡ length l.initial.out)
-
-abbrev pub decreases-loop-i : goal.decreases-loop-i
-decreases-loop-i l = length l.moved - l.i
