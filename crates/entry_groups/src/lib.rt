@@ -2,22 +2,26 @@
 // read back. Beyond its last word a list reads as zeros, and nothing is written.
 #![tactic(auto)]
 
+ghost use Rattle.std.specs.Prelude.{min, ◌≡◌, ◌*◌, ◌++◌, length, drop, take, replicate};
+
 use book::{ElectedWords, MovedWords};
 use copying::copy_start;
 use word_groups::{copy, first_words, rest};
 
 // The entry at a place.
-pub fn entry_at<const N: usize>(list: &[u64], i: usize) -> [u64; N] {
+fn entry_at<const N: usize>(list: &[u64], i: usize) -> [u64; N]
+    ensures { let behind = drop (i * N) list.now in let many = min N (length behind) in result ≡ take many behind ++ drop many (replicate N 0) }
+{
     first_words(rest(list, i.saturating_mul(N)))
 }
 
 // The entries of a list, read.
-pub fn read<const N: usize>(entries: &mut [[u64; N]], list: &[u64]) {
+fn read<const N: usize>(entries: &mut [[u64; N]], list: &[u64]) {
     copy(list, entries.as_flattened_mut());
 }
 
 // The entries of a list, put.
-pub fn put<const N: usize>(list: &mut [u64], entries: &[[u64; N]]) {
+fn put<const N: usize>(list: &mut [u64], entries: &[[u64; N]]) {
     copy_start(list, entries.as_flattened());
 }
 

@@ -1,6 +1,6 @@
 // A line that commits: the entries of both lists stand in it.
 use book::{ELECTED_WORDS, ElectedWords, MOVED_WORDS, MovedWords};
-use entry_groups::read;
+use entry_groups::{read_elected, read_moved};
 use session_text::lent::{LENT, MOST_ELECTED, MOST_MOVED};
 use session_text::printing;
 use word_groups::{first_words, rest, word};
@@ -41,8 +41,8 @@ pub fn commit(s: &mut [u64], n: &[u64]) {
     let elected = word(n, COUNTS) as usize;
     let moved = word(n, COUNTS + 1) as usize;
     if elected <= MOST_ELECTED && moved <= MOST_MOVED {
-        read(&mut fills, rest(n, ENTRIES));
-        read(&mut moves, rest(n, ENTRIES + ELECTED_WORDS * elected));
+        read_elected(&mut fills, rest(n, ENTRIES));
+        read_moved(&mut moves, rest(n, ENTRIES + ELECTED_WORDS * elected));
         let e: &[ElectedWords] = &fills;
         let m: &[MovedWords] = &moves;
         with_lists(s, n, &e[0..elected], &m[0..moved]);

@@ -4,7 +4,7 @@
 // is not proved.
 #![tactic(auto)]
 
-ghost use Rattle.std.specs.Prelude.{◌≤◌, length};
+ghost use Rattle.std.specs.Prelude.{◌≡◌, ◌≢◌, ◌≤◌, length, set, take, MatchResult};
 
 use book::{ELECTED_WORDS, MOST_MOVES, MOST_RECORDS, MOVED_WORDS};
 use sheet_lines::{names, put_line};
@@ -132,7 +132,9 @@ pub fn say(out: &mut [u8], desk: &mut [u64], row: u64, values: &[u64]) {
 }
 
 // The last trade is at a price.
-pub fn traded(desk: &mut [u64], price: u64) {
+pub fn traded(desk: &mut [u64], price: u64)
+    ensures { desk.new ≡ set (set desk.old 7 1) 8 price }
+{
     set(desk, TRADE, 1);
     set(desk, TRADE + 1, price);
 }
@@ -170,12 +172,16 @@ pub fn tell_picture(out: &mut [u8], desk: &mut [u64], row: u64, values: &[u64]) 
 }
 
 // What a call of the library for hosts answers as its number: 0, or that of the refusal.
-pub fn accepted(number: u64) -> Result<(), u64> {
+pub fn accepted(number: u64) -> Result<(), u64>
+    ensures { MatchResult result (λ _. number ≡ 0) (λ e. (e ≡ number) × (number ≢ 0)) }
+{
     if number == 0 { Ok(()) } else { Err(number) }
 }
 
 // The first entries of a list, as many as a call answers that it put there; all where there are fewer.
-pub fn filled<T>(list: &[T], many: u64) -> &[T] {
+pub fn filled<T>(list: &[T], many: u64) -> &[T]
+    ensures { result.now ≡ take many list.now }
+{
     list.get(..many as usize).unwrap_or(list)
 }
 
@@ -183,7 +189,9 @@ pub fn filled<T>(list: &[T], many: u64) -> &[T] {
 pub const PRICE_COUNT: u64 = 16;
 
 // A run, refused where it has no prints.
-pub fn some_prints(run: &[u64]) -> Result<&[u64], u64> {
+pub fn some_prints(run: &[u64]) -> Result<&[u64], u64>
+    ensures { MatchResult result (λ some. (some.now ≡ run.now) × (1 ≤ length run.now)) (λ e. (e ≡ 16) × (length run.now ≡ 0)) }
+{
     if run.is_empty() {
         Err(PRICE_COUNT)
     } else {
