@@ -58,7 +58,10 @@ pub fn collect(s: &[u64], selector: Selector, list: &mut [StopWords]) -> Result<
         (told_answer result ≡ o.answer)
         × (list.new ≡ written (map stop_words o.listed) list.old) }
 {
-    ask_collect(s, list.len())?;
+    // No `?`: an edit changes what is handed up.
+    if let Err(e) = ask_collect(s, list.len()) {
+        return Err(e);
+    }
     let mut order = [0u64; MOST_RECORDS];
     let n = s[0];
     let m = list_selected(s, n, selector, &mut order[..], list);

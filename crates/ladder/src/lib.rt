@@ -65,7 +65,10 @@ pub fn ladder(s: &[u64], prices: &[u64], list: &mut [LadderWords]) -> Result<u64
         (told_answer result ≡ o.answer)
         × (list.new ≡ written (map ladder_words o.listed) list.old) }
 {
-    ask_ladder(s, prices, list.len())?;
+    // No `?`: an edit changes what is handed up.
+    if let Err(e) = ask_ladder(s, prices, list.len()) {
+        return Err(e);
+    }
     let mut order = [0u64; MOST_RECORDS];
     let n = s[0];
     let k = by_sequence(s, n, &mut order[..]);

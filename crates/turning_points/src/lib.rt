@@ -72,7 +72,10 @@ pub fn turning_points(prices: &[u64], list: &mut [u64]) -> Result<u64, Refusal>
         (told_answer result ≡ o.answer)
         × (list.new ≡ written (map price_word o.listed) list.old) }
 {
-    ask_turning_points(prices, list.len())?;
+    // No `?`: an edit changes what is handed up.
+    if let Err(e) = ask_turning_points(prices, list.len()) {
+        return Err(e);
+    }
     let count = write_turning_points(prices, list);
     Ok(count as u64)
 }

@@ -2,7 +2,6 @@
 use mathlib.Core.List.{map}
 use native.Mathlib.Omega.{arith}
 use lib.ListN.{get_or, length-map}
-use Rattle.std.proofs.lemmas.Result.{err_from_is_err_and}
 use Rattle.error.proofs.Verdicts.{all_yes, one_no}
 use Rattle.book.proofs.BySequence.{by_sequence_holds}
 use Rattle.error.specs.Answer.{told_answer}
@@ -16,12 +15,12 @@ use Rattle.ladder.proofs.ladder.Goals as goal
 
 pub bounds-s-0 : goal.bounds-s-0
 bounds-s-0 c =
-    let h = all_yes _ _ c.in_ok-ask_ladder.was c.ask_ladder.ensures in
+    let h = all_yes _ _ c.in_default.is c.ask_ladder.ensures in
     omega (arith, (well_formed_room _ (ladder-formed _ _ _ h)).room)
 
 pub by_sequence-k-requires : goal.by_sequence-k-requires
 by_sequence-k-requires c =
-    let h = all_yes _ _ c.in_ok-ask_ladder.was c.ask_ladder.ensures in
+    let h = all_yes _ _ c.in_default.is c.ask_ladder.ensures in
     let room = well_formed_room _ (ladder-formed _ _ _ h) in
     (room, room.few)
 
@@ -29,7 +28,7 @@ pub list_entries-requires : goal.list_entries-requires
 unfolding book_of
 list_entries-requires c =
     let w = c.args.s.now in
-    let h = all_yes _ _ c.in_ok-ask_ladder.was c.ask_ladder.ensures in
+    let h = all_yes _ _ c.in_default.is c.ask_ladder.ensures in
     let ss = (book_of w).slots in
     let g = c.by_sequence-k.ensures.0 in
     record {
@@ -41,18 +40,16 @@ list_entries-requires c =
       prices_len_bound = rw length-map at (ladder_few _ w _ h);
     }
 
-pub returns-in_err-ask_ladder : goal.returns-in_err-ask_ladder
+pub returns-in-Err : goal.returns-in-Err
 unfolding told_answer
-returns-in_err-ask_ladder c =
+returns-in-Err c =
     let g = c.args in
-    let p = err_from_is_err_and c.from_residual.result c.from_residual.ensures.1 in
-    rw (p.1, p.2)
-    (ladder_refused (map to_price g.prices.now) g.s.now g.list.now _
-    (one_no _ _ _ c.in_err-ask_ladder.was c.ask_ladder.ensures))
+    ladder_refused (map to_price g.prices.now) g.s.now g.list.now _
+    (one_no _ _ _ c.in-Err.is c.ask_ladder.ensures)
 
 pub returns : goal.returns
 unfolding told_answer book_of
 returns c =
     let g = c.args in
-    let h = all_yes _ _ c.in_ok-ask_ladder.was c.ask_ladder.ensures in
+    let h = all_yes _ _ c.in_default.is c.ask_ladder.ensures in
     ladder_done (map to_price g.prices.now) g.s.now g.list.now _ _ _ h c.by_sequence-k.ensures.0 c.list_entries.ensures
