@@ -6,11 +6,36 @@ ghost use Rattle.book.specs.Lists.{same_by, same_list};
 
 use book::{Counts, ElectedWords, MovedWords};
 
+// Whether two lists of words are the same. By hand, as same_entries is: the edits change their comparisons.
+#[tactic(auto, using(crate::proofs::Compared::words_differ))]
+fn same_words(a: &[u64], b: &[u64]) -> bool
+    ensures { result ≡ same_list a.now b.now }
+{
+    if a.len() != b.len() {
+        return false;
+    }
+    for i in 0..a.len() {
+        if a[i] != b[i] {
+            return false;
+        }
+    }
+    true
+}
+
 // Whether two lists of entries of N words are the same.
+#[tactic(auto, using(crate::proofs::Compared::entries_differ))]
 pub fn same_entries<const N: usize>(a: &[[u64; N]], b: &[[u64; N]]) -> bool
     ensures { result ≡ same_by same_list a.now b.now }
 {
-    a == b
+    if a.len() != b.len() {
+        return false;
+    }
+    for i in 0..a.len() {
+        if !same_words(&a[i], &b[i]) {
+            return false;
+        }
+    }
+    true
 }
 
 // Whether the lists that are handed in are what was listed: so many elected and moved entries, the same.
