@@ -40,7 +40,9 @@ pub fn put_words(s: &mut [u64], at: usize, words: &[u64])
     requires { at + length words.now ≤ length s.old }
     ensures { s.new ≡ sets s.old at words.now }
 {
-    s[at..at + words.len()].copy_from_slice(words);
+    for k in 0..words.len() {
+        s[at + k] = words[k];
+    }
 }
 
 // Writes the words of record i, its links among them.

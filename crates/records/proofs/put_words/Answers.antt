@@ -1,8 +1,13 @@
 -- `records::put_words` meets its contract.
-use Rattle.std.proofs.Common.{arith}
-use Rattle.std.proofs.lemmas.Grind.{common_steps}
-use Rattle.std.proofs.lemmas.List.Edits.{sets-eq}
+use native.Mathlib.Omega.{arith}
+use Rattle.chains.proofs.Copies.{copied_none, copied_more, copied_all}
 use Rattle.records.proofs.put_words.Goals as goal
 
+pub loop-k-init : goal.loop-k-init
+loop-k-init c = copied_none _ _ _
+
+pub loop-k-preserved : goal.loop-k-preserved
+loop-k-preserved c = copied_more _ _ _ _ _ c.loop-k.invariant c.loop-k-test.true
+
 pub returns : goal.returns
-returns c = grind (arith, common_steps, sets-eq)
+returns c = copied_all _ _ _ _ _ c.loop-k.invariant c.loop-k-test.false
