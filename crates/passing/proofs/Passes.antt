@@ -227,8 +227,8 @@ module _ {settings : Settings} {script : List ℕ} {n : ℕ} {v : List ℕ} {l k
 -- The loop
 
 -- the places of the queue but the first, at the start
-abbrev pub others_at_start : PrintSegment → List PrintSegment
-others_at_start prints = replicate most_records prints
+abbrev pub others_at_start : List PrintSegment
+others_at_start = replicate most_records (record { prev = None; first = record { 0 = 0 }; last = record { 0 = 0 } })
 
 queued_start : (prints : PrintSegment) (others : List PrintSegment) → Queued (prints ∷ others) 0 1 (prints ∷ [])
 queued_start prints others = queued_sets (prints ∷ others) 0 (prints ∷ []) (omega arith)

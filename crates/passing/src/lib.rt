@@ -12,7 +12,15 @@ ghost use Rattle.pending_stops.specs.Stored.{Stored};
 
 use book::{ElectedWords, MOST_RECORDS, PrintSegment, Settings};
 use pass_segments::pass_segment;
+use pricelevel::Price;
 use segment_queue::segment_at;
+
+// What the places of the queue hold before a segment stands there.
+const NO_SEGMENT: PrintSegment = PrintSegment {
+    prev: None,
+    first: Price(0),
+    last: Price(0),
+};
 
 // What a pass did: how many times a stop price became another, where the list of the elected goes on, and the script
 // entries used.
@@ -42,7 +50,8 @@ pub fn pass(
         × (list.new ≡ sets list.old 0 (map elected_words (pass settings script.now prints b).entries))
         × Stored n s.new (pass settings script.now prints b).book r }
 {
-    let mut queue = [prints; MOST_RECORDS + 1];
+    let mut queue = [NO_SEGMENT; MOST_RECORDS + 1];
+    queue[0] = prints;
     let mut head: usize = 0;
     let mut tail: usize = 1;
     let mut moves: u64 = 0;

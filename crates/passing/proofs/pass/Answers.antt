@@ -9,7 +9,7 @@ use Rattle.passing.proofs.pass.Goals as goal
 pub loop-next-init : goal.loop-next-init
 loop-next-init c =
     let f = c.requires.script_value in let (b, r, st, long) = c.requires.by_index in
-    passes_first _ (others_at_start c.args.prints) (omega arith) f st long
+    passes_first _ others_at_start (omega arith) f st long
 
 pub slice_bounds-segment_at-end : goal.slice_bounds-segment_at-end
 slice_bounds-segment_at-end c = sym c.loop-next.invariant.same_queue
@@ -87,9 +87,9 @@ loop-next-preserved c =
 
 pub returns-in_default : goal.returns-in_default
 returns-in_default c =
-    passes_none _ (others_at_start c.args.prints) c.loop-next.invariant c.in_default.is
+    passes_none _ others_at_start c.loop-next.invariant c.in_default.is
     c.segment_at.ensures
 
 pub returns-then-s-eq0 : goal.returns-then-s-eq0
 returns-then-s-eq0 c =
-    passes_empty _ (others_at_start c.args.prints) c.loop-next.invariant c.if-s-eq0.true
+    passes_empty _ others_at_start c.loop-next.invariant c.if-s-eq0.true
