@@ -16,7 +16,11 @@ const MOST_ENTRIES: u64 = MOST_RECORDS as u64;
 
 // Puts the words of an entry, if there is room for so many.
 fn put_entry(script: &mut [u64], entries: u64, v: &[u64]) {
-    if let Some(entry) = script.chunks_mut(SCRIPT_ENTRY_WORDS).nth(entries as usize) {
+    let at = (entries as usize).saturating_mul(SCRIPT_ENTRY_WORDS);
+    let Some(behind) = script.get_mut(at..) else {
+        return;
+    };
+    if let Some(entry) = behind.get_mut(..SCRIPT_ENTRY_WORDS) {
         copy(v, entry);
     }
 }
