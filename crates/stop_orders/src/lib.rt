@@ -19,6 +19,9 @@ pub use stop_protection::{LimitPrice, StopProtection};
 pub use stop_terms::{Inconsistency, StopTerms};
 pub use uuid_v5::Uuid;
 
+// The limit of a stop's order under a collar that may be absent; a limit as words: whether it is there, high, low.
+pub use stop_protection::{limit_under, limit_words};
+
 // Lays a store of n records and a tick, 0 for none, out in lent words. Refused: n is not 1 to 545, or there are too few
 // words (2).
 pub use store_layout::layout_store;
