@@ -56,6 +56,7 @@ use crate::Read;
 use crate::rows::by_rows;
 
 // The command by the line's first word, which stands between two places.
+#[tactic(auto, unfolding(crate::specs::Grammar::grammar))]
 pub fn by_grammar(line: &[u8], start: usize, end: usize, values: &mut [u64]) -> Read
     requires {{ (start ≤ end) × (end ≤ length line.now) }}
     ensures {{ Told (command_from (lines_of grammar) 1 line.now start end) values.old values.new result }}
